@@ -1,0 +1,9 @@
+use Rattle.lines.proofs.Asking.{no-first-no}
+use Rattle.families.specs.Stations.{station-questions}
+use Rattle.families.proofs.stations.Stations.make.Needs as need
+
+pub returns-in-Err : need.returns-in-Err
+returns-in-Err c = record {
+  right = λ y. absurd (no-first-no (station-questions (c .args .heads .now) (c .args .ordinates .now)) _ _ y (c .in-Err .ensures tt));
+  wrong = λ _. c .without .ensures;
+}

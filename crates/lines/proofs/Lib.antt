@@ -1,0 +1,4 @@
+pub mod Bounds
+pub mod UnderCells
+pub mod Joining
+pub mod Asking

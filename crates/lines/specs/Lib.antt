@@ -1,0 +1,5 @@
+pub mod Lines
+pub mod Cells
+pub mod Joins
+pub mod Parts
+pub mod Asks
