@@ -18,9 +18,10 @@ cases-le a b = ⊎-elim inr inl (cases-lt b a)
 -- where x falls between the stations
 place-suc : (d m x : ℕ) → x ≤ d * m → 1 ≤ d → (x / d ≤ m) × (0 < x % d → x / d < m)
 place-suc d m x within low =
-    let e = div-add-mod x d in
-    (⊎-elim (λ h. h) (λ h. let k : d * suc m ≤ d * (x / d) = mul-le-mul-left d h in let s = mul-suc d m in absurd (omega arith)) (cases-le (x / d) m),
-     λ r. ⊎-elim (λ h. h) (λ h. let k : d * m ≤ d * (x / d) = mul-le-mul-left d h in absurd (omega arith)) (cases-lt (x / d) m))
+    let e = div-add-mod x d in (
+      ⊎-elim (λ h. h) (λ h. let k : d * suc m ≤ d * (x / d) = mul-le-mul-left d h in let s = mul-suc d m in absurd (omega arith)) (cases-le (x / d) m),
+      λ r. ⊎-elim (λ h. h) (λ h. let k : d * m ≤ d * (x / d) = mul-le-mul-left d h in absurd (omega arith)) (cases-lt (x / d) m),
+    )
 
 pub place : (d n x : ℕ) → 1 ≤ d → 2 ≤ n → x ≤ d * (n - 1) → (x / d < n) × (0 < x % d → x / d + 1 < n)
 place d n x low two within = let p = place-suc d (n - 1) x within low in (omega arith, λ r. let q = p .1 r in omega arith)
@@ -49,14 +50,14 @@ between-small d m ys n x low two within all =
     let sum : natAbs (between d ys x) ≤ (d - x % d) * natAbs y + x % d * natAbs z = omega (arith, ints) in
     ⊎-elim
     (λ h.
-      let q = all (x / d + 1) (at .1 h) in
-      let k = mean (d - x % d) (x % d) (natAbs y) (natAbs z) m (rw e p) (rw e q) in
-      omega arith)
+    let q = all (x / d + 1) (at .1 h) in
+    let k = mean (d - x % d) (x % d) (natAbs y) (natAbs z) m (rw e p) (rw e q) in
+    omega arith)
     (λ h.
-      let r : x % d ≡ 0 = omega arith in
-      let s : x % d * natAbs z ≡ 0 = rw r (zero-mul (natAbs z)) in
-      let t : (d - x % d) * natAbs y ≡ d * natAbs y = rw r (ap (λ (w : ℕ). w * natAbs y) (omega arith)) in
-      omega arith)
+    let r : x % d ≡ 0 = omega arith in
+    let s : x % d * natAbs z ≡ 0 = rw r (zero-mul (natAbs z)) in
+    let t : (d - x % d) * natAbs y ≡ d * natAbs y = rw r (ap (λ (w : ℕ). w * natAbs y) (omega arith)) in
+    omega arith)
     (cases-lt 0 (x % d))
 
 -- the ordinate at a station

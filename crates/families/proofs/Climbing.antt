@@ -60,9 +60,9 @@ climb-more rs k m h before end x l =
     ⊎-elim
     (λ a. before x (omega arith))
     (λ a.
-      let t = x - s in
-      let at : s + t ≡ x = omega arith in
-      let here = climb-at rs k t h (omega arith) in
-      let last = subst (λ z. natAbs z ≤ m) (climb-end rs k h) end in
-      subst (λ z. natAbs z ≤ m) (sym (ap (climb rs) (sym at) ∙ here)) (even (climb rs s) r t n m (omega arith) (before s (omega arith)) last))
+    let t = x - s in
+    let at : s + t ≡ x = omega arith in
+    let here = climb-at rs k t h (omega arith) in
+    let last = subst (λ z. natAbs z ≤ m) (climb-end rs k h) end in
+    subst (λ z. natAbs z ≤ m) (sym (ap (climb rs) (sym at) ∙ here)) (even (climb rs s) r t n m (omega arith) (before s (omega arith)) last))
     (cases-lt x s)

@@ -34,17 +34,23 @@ pub(crate) fn own_rows<'a, T: Head>(head: &T, rows: &'a [T::Row], at: usize) -> 
 }
 
 // The questions in their order, and the first no.
-pub(crate) fn check<T: Head>(heads: &[T], rows: &[T::Row]) -> Result<(), Refusal>
+pub(crate) fn ask<T: Head>(heads: &[T], rows: &[T::Row]) -> Result<(), Refusal>
     ensures { λ r. ⌜ Tells (questions taken draft (now (heads .entry)) (now (rows .entry))) r ⌝ }
 {
     if !adds_up(heads, rows) {
-        return Err(Refusal { question: Question::Rows, head: 0 });
+        return Err(Refusal {
+            question: Question::Rows,
+            head: 0,
+        });
     }
     let mut at: usize = 0;
     for i in 0..heads.len() {
         let head = &heads[i];
         if let Some(question) = head.first_no(own_rows(head, rows, at)) {
-            return Err(Refusal { question, head: i as u32 });
+            return Err(Refusal {
+                question,
+                head: i as u32,
+            });
         }
         at += head.taken() as usize;
     }

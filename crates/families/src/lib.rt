@@ -2,9 +2,9 @@
 mod check;
 mod find;
 mod head;
+mod ordinates;
 pub mod questions;
 pub mod rows;
-mod ordinates;
 mod run_head;
 pub mod runs;
 mod station_head;

@@ -20,7 +20,11 @@ impl Run {
     fn size(&self) -> u32
         ensures { λ r. ⌜ r ≡ run-size (now (self .entry)) ⌝ }
     {
-        if self.length < 0 { 0 } else { self.length as u32 }
+        if self.length < 0 {
+            0
+        } else {
+            self.length as u32
+        }
     }
 }
 

@@ -9,7 +9,7 @@ ghost use Rattle.families.specs.declared.questions.Refusal.{Refusal as Told};
 ghost use Rattle.families.specs.Drafts.{Counted, Scaled, Bounded, Tells};
 ghost use Rattle.families.specs.Own.{Each};
 ghost use Rattle.families.specs.Runs.{No-short, run-draft, run-lines, run-limits, run-questions, no-run-head};
-use crate::check::check;
+use crate::check::ask;
 use crate::find::length_of;
 use crate::find::ordinate_of;
 use crate::find::scale_of;
@@ -38,7 +38,7 @@ impl<'a> Runs<'a> {
         ensures told { λ r. ⌜ Tells (run-questions (now (heads .entry)) (now (runs .entry))) r ⌝ }
         ensures only { λ r. ⌜ ((a : Either (Unit {0}) Told) → Tells (run-questions (now (heads .entry)) (now (runs .entry))) a → a ≡ r) ⌝ }
     {
-        check(heads, runs)
+        ask(heads, runs)
     }
 
     /// The family of these lines; one without lines where a question is answered no.
@@ -46,7 +46,7 @@ impl<'a> Runs<'a> {
         ensures right { λ r. ⌜ (All-yes (run-questions (now (heads .entry)) (now (runs .entry))) → run-lines (now (r .heads)) (now (r .runs)) ≡ run-lines (now (heads .entry)) (now (runs .entry))) ⌝ }
         ensures wrong { λ r. ⌜ ((All-yes (run-questions (now (heads .entry)) (now (runs .entry))) → ⊥) → run-lines (now (r .heads)) (now (r .runs)) ≡ []) ⌝ }
     {
-        match check(heads, runs) {
+        match Runs::check(heads, runs) {
             Ok(()) => Runs::with(heads, runs),
             Err(_) => Runs::without(),
         }
@@ -62,7 +62,10 @@ impl<'a> Runs<'a> {
     fn without() -> Runs<'static>
         ensures { λ r. ⌜ run-lines (now (r .heads)) (now (r .runs)) ≡ [] ⌝ }
     {
-        Runs { heads: &[], runs: &[] }
+        Runs {
+            heads: &[],
+            runs: &[],
+        }
     }
 }
 

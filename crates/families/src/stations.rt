@@ -7,7 +7,7 @@ ghost use Rattle.families.specs.declared.questions.Refusal.{Refusal as Told};
 ghost use Rattle.families.specs.Drafts.{Counted, Scaled, Sized, Bounded, Tells};
 ghost use Rattle.families.specs.Own.{Each};
 ghost use Rattle.families.specs.Stations.{station-draft, station-lines, station-limits, station-questions, no-station-head};
-use crate::check::check;
+use crate::check::ask;
 use crate::find::length_of;
 use crate::find::ordinate_of;
 use crate::find::scale_of;
@@ -33,7 +33,7 @@ impl<'a> Stations<'a> {
         ensures told { λ r. ⌜ Tells (station-questions (now (heads .entry)) (now (ordinates .entry))) r ⌝ }
         ensures only { λ r. ⌜ ((a : Either (Unit {0}) Told) → Tells (station-questions (now (heads .entry)) (now (ordinates .entry))) a → a ≡ r) ⌝ }
     {
-        check(heads, ordinates)
+        ask(heads, ordinates)
     }
 
     /// The family of these lines; one without lines where a question is answered no.
@@ -41,7 +41,7 @@ impl<'a> Stations<'a> {
         ensures right { λ r. ⌜ (All-yes (station-questions (now (heads .entry)) (now (ordinates .entry))) → station-lines (now (r .heads)) (now (r .ordinates)) ≡ station-lines (now (heads .entry)) (now (ordinates .entry))) ⌝ }
         ensures wrong { λ r. ⌜ ((All-yes (station-questions (now (heads .entry)) (now (ordinates .entry))) → ⊥) → station-lines (now (r .heads)) (now (r .ordinates)) ≡ []) ⌝ }
     {
-        match check(heads, ordinates) {
+        match Stations::check(heads, ordinates) {
             Ok(()) => Stations::with(heads, ordinates),
             Err(_) => Stations::without(),
         }
@@ -57,7 +57,10 @@ impl<'a> Stations<'a> {
     fn without() -> Stations<'static>
         ensures { λ r. ⌜ station-lines (now (r .heads)) (now (r .ordinates)) ≡ [] ⌝ }
     {
-        Stations { heads: &[], ordinates: &[] }
+        Stations {
+            heads: &[],
+            ordinates: &[],
+        }
     }
 }
 

@@ -1,7 +1,8 @@
 -- The double areas under a set of cells: one cell more, none more, and bounds.
 use mathlib.Core.Path.{_≡_, refl, sym, ap, _∙_}
 use mathlib.Core.Bool.{Bool, true, false, cond}
-use Prim.Native.Nat.{ℕ, zero, suc, _+_, _*_, _≤_, _<_, min, zero-le}
+use Prim.Native.Nat.{ℕ, zero, suc, _+_, _*_, _-_, _≤_, _<_, min, zero-le}
+use native.Mathlib.Nat.{add-zero}
 use native.Mathlib.Numerals.{add-one}
 use native.Mathlib.Omega.{arith}
 use borrow.Author.Differences.{ints}
@@ -96,3 +97,30 @@ block-more l a n m k h j = under-more l (block a n) k ∙ ap (λ (b : Bool). und
 
 pub block-all : (l : Line) (a : ℤ) (n : ℕ) → areas l (block a n) ≡ under l (block a n) (clip (l .len) (a +ℤ pos n))
 block-all l a n = under-same l (block a n) (clip (l .len) (a +ℤ pos n)) (l .len) (clip-high (l .len) (a +ℤ pos n)) (λ k h j. past-block a n (l .len) k h j)
+
+-- a block has no more cells on the line than it is long
+clip-step : (w : ℕ) (a : ℤ) (n : ℕ) → clip w (a +ℤ pos n) ≤ clip w a + n
+clip-step w (pos x) n = omega arith
+clip-step w (negsuc x) n = let p = clip-mono w (negsuc x +ℤ pos n) (pos n) (omega (arith, ints)) in omega arith
+
+block-bound : (l : Line) → Mild l → (a : ℤ) (n w j : ℕ) → natAbs (under l (block a n) (clip w a + j)) ≤ j * 2000000
+block-bound l m a n w zero =
+    let e : under l (block a n) (clip w a + 0) ≡ pos 0 = ap (under l (block a n)) (add-zero (clip w a)) ∙ sym (block-none l a n w) in
+    omega (arith, ints)
+block-bound l m a n w (suc j) =
+    let k = clip w a + j in
+    let p = block-bound l m a n w j in
+    let q = part-small l m (block a n) k in
+    let e : under l (block a n) (clip w a + suc j) ≡ under l (block a n) (k + 1) = ap (under l (block a n)) (omega arith) in
+    let f = under-more l (block a n) k in
+    omega (arith, ints)
+
+pub block-small : (l : Line) → Mild l → (a : ℤ) (n : ℕ) → natAbs (areas l (block a n)) ≤ n * 2000000
+block-small l m a n =
+    let w = l .len in
+    let j = clip w (a +ℤ pos n) - clip w a in
+    let up = clip-mono w a (a +ℤ pos n) (omega (arith, ints)) in
+    let few : j ≤ n = omega (arith, clip-step w a n) in
+    let p = block-bound l m a n w j in
+    let e : areas l (block a n) ≡ under l (block a n) (clip w a + j) = block-all l a n ∙ ap (under l (block a n)) (omega arith) in
+    omega (arith, ints)

@@ -16,11 +16,11 @@ pub joined-limits : (xs ys : List Line) → Limits xs → Limits ys → Limits (
 joined-limits xs ys p q = record {
   few = omega (arith, length-take 65535 (xs ++ ys));
   fair = λ i h.
-    let l = length-take 65535 (xs ++ ys) in
-    let m = length-append xs ys in
-    let t : getD (joined-lines xs ys) i no-line ≡ getD (xs ++ ys) i no-line = getD-take 65535 (xs ++ ys) i no-line (omega arith) in
-    ⊎-elim
-    (λ k. subst Fair (sym (t ∙ getD-append-left xs ys no-line i k)) (p .fair i k))
-    (λ k. subst Fair (sym (t ∙ getD-append-right xs ys (length xs) i no-line refl k)) (q .fair (i - length xs) (omega arith)))
-    (cases-lt i (length xs));
+      let l = length-take 65535 (xs ++ ys) in
+      let m = length-append xs ys in
+      let t : getD (joined-lines xs ys) i no-line ≡ getD (xs ++ ys) i no-line = getD-take 65535 (xs ++ ys) i no-line (omega arith) in
+      ⊎-elim
+      (λ k. subst Fair (sym (t ∙ getD-append-left xs ys no-line i k)) (p .fair i k))
+      (λ k. subst Fair (sym (t ∙ getD-append-right xs ys (length xs) i no-line refl k)) (q .fair (i - length xs) (omega arith)))
+      (cases-lt i (length xs));
 }

@@ -1,6 +1,6 @@
 //! Areas under a line of any family.
 ghost use mathlib.Core.Path.{_≡_};
-ghost use Prim.Native.Nat.{ℕ, _≤_};
+ghost use Prim.Native.Nat.{ℕ, _*_, _≤_};
 ghost use lib.IntN.{pos, natAbs, _+ℤ_};
 ghost use lib.Signed.{_≤ℤ_};
 ghost use Rattle.lines.specs.Lines.{Line, line-no, Y, Limits};
@@ -45,6 +45,7 @@ fn clipped_end(a: i64, len: u32, n: i64) -> u32
 pub fn double_areas<F: Family>(f: &F, line: i32, a: i64, len: u32) -> i64
     ensures value { λ r. ⌜ r ≡ areas (line-no (lines (now (f .entry))) line) (block a len) ⌝ }
     ensures small { λ r. ⌜ natAbs r ≤ 200000000000 ⌝ }
+    ensures short { λ r. ⌜ natAbs r ≤ len * 2000000 ⌝ }
 {
     let n = f.length(line);
     let from = clipped(a, n);

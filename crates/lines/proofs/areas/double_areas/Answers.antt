@@ -11,15 +11,16 @@ use Rattle.std.proofs.shelf.Signed.{toZ-ofZ, toZ-pos}
 use Rattle.lines.specs.Lines.{line-no}
 use Rattle.lines.specs.Cells.{cell-area, under, block, clip}
 use Rattle.lines.proofs.Bounds.{mild}
-use Rattle.lines.proofs.UnderCells.{block-none, block-more, block-all, cell-at, under-small, clip-high, clip-mono}
+use Rattle.lines.proofs.UnderCells.{block-none, block-more, block-all, cell-at, under-small, clip-high, clip-mono, block-small}
 use Rattle.lines.proofs.areas.double_areas.Needs as need
 
 pub loop-k-holds : need.loop-k-holds
 loop-k-holds g c =
     let fa = c .fits .a in
     let line = line-no (g .F·Family .lines (c .args .f .now)) (c .args .line) in
-    let e = simp toZ-ofZ at (c .clipped-from .ensures) in
     let fl = c .fits .line in
+    let fn : SFits w64 (c .length-n .result) = search needs in
+    let e : c .clipped-from .result ≡ clip (natAbs (c .length-n .result)) (c .args .a) = grind (arith, toZ-ofZ) in
     simp toZ-ofZ (block-none line (c .args .a) (c .args .len) _ ∙ ap (under line (block (c .args .a) (c .args .len))) (sym e))
 
 pub add-sum : need.add-sum
@@ -75,4 +76,5 @@ returns g c =
     let all = block-all line (c .args .a) (c .args .len) in
     let b = under-small line m (block (c .args .a) (c .args .len)) (line .len) (m .len-high) in
     let v = c .loop-k .sum-is ∙ i ∙ ap (under line (block (c .args .a) (c .args .len))) k ∙ sym all in
-    record { value = v; small = omega (arith, ints) }
+    let n = block-small line m (c .args .a) (c .args .len) in
+    record { value = v; small = omega (arith, ints); short = omega (arith, ints) }

@@ -32,7 +32,8 @@ returns-then-line-lt-MOST g c =
     let low : pos (length xs) ≤ℤ c .args .line = omega (arith, ints) in
     let high : c .args .line <ℤ pos 65535 = omega (arith, ints) in
     let n = ap (λ (z : ℤ). line-no ys (c .args .line -ℤ z)) (sym (c .count-n .ensures .value)) in
-    simp toZ-ofZ (joined-second xs ys (c .args .line) low high ∙ n)
+    let e = joined-second xs ys (c .args .line) low high ∙ n in
+    grind (arith, toZ-ofZ)
 
 pub returns-else-line-lt-MOST : need.returns-else-line-lt-MOST
 returns-else-line-lt-MOST g c =

@@ -6,7 +6,7 @@ use lib.ListN.{length}
 use borrow.Author.Needs.{needs}
 use Rattle.families.proofs.Starts.{start-more, start-high}
 use Rattle.families.proofs.Asked.{Own-of, led-none, led-more, led-no, led-all}
-use Rattle.families.proofs.check.check.Needs as need
+use Rattle.families.proofs.check.ask.Needs as need
 
 pub own-rows-requires : need.own-rows-requires
 own-rows-requires g c κs =
