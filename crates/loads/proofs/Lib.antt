@@ -1,0 +1,4 @@
+pub mod Products
+pub mod Centres
+pub mod Judging
+pub mod Highest

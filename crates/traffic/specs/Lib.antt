@@ -1,0 +1,4 @@
+pub mod Records
+pub mod Sets
+pub mod Tests
+pub mod Figures
