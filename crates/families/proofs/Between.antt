@@ -10,7 +10,7 @@ use lib.ListN.{length, getD}
 use borrow.Author.Differences.{ints}
 use Rattle.std.proofs.shelf.Tests.{cases-lt}
 use Rattle.families.specs.Stations.{between}
-use Rattle.families.proofs.Multiples.{abs-times}
+use Rattle.lines.proofs.Products.{abs-product}
 
 cases-le : (a b : ℕ) → (a ≤ b) ⊎ (b < a)
 cases-le a b = ⊎-elim inr inl (cases-lt b a)
@@ -43,8 +43,8 @@ between-small d m ys n x low two within all =
     let z = getD ys (x / d + 1) (pos 0) in
     let at = place d n x low two within in
     let p = all (x / d) (at .0) in
-    let f = abs-times (d - x % d) y in
-    let g = abs-times (x % d) z in
+    let f = abs-product (pos (d - x % d)) y in
+    let g = abs-product (pos (x % d)) z in
     let less = mod-lt x low in
     let e : (d - x % d) + x % d ≡ d = omega arith in
     let sum : natAbs (between d ys x) ≤ (d - x % d) * natAbs y + x % d * natAbs z = omega (arith, ints) in
@@ -67,8 +67,8 @@ at-station d ys j low =
     let r : x % d ≡ 0 = mul-mod-right d j in
     let q : x / d ≡ j = mul-div-right j low in
     let e : d - x % d ≡ d = omega arith in
-    let f = abs-times d (getD ys j (pos 0)) in
-    let g = abs-times 0 (getD ys (j + 1) (pos 0)) in
+    let f = abs-product (pos d) (getD ys j (pos 0)) in
+    let g = abs-product (pos 0) (getD ys (j + 1) (pos 0)) in
     let z = zero-mul (natAbs (getD ys (j + 1) (pos 0))) in
     let v : between d ys x ≡ pos d *ℤ getD ys j (pos 0) +ℤ pos 0 *ℤ getD ys (j + 1) (pos 0) = cc (r, q, e) in
     ap natAbs v ∙ omega (arith, ints)

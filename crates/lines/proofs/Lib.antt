@@ -2,3 +2,4 @@ pub mod Bounds
 pub mod UnderCells
 pub mod Joining
 pub mod Asking
+pub mod Products

@@ -1,4 +1,4 @@
-pub mod Products
+pub mod Sizes
 pub mod Centres
 pub mod Judging
 pub mod Highest

@@ -10,7 +10,7 @@ use borrow.Author.Differences.{ints}
 use borrow.Author.Count.{below-more}
 use Rattle.std.proofs.shelf.Signed.{toZ-ofZ}
 use Rattle.std.proofs.shelf.Tests.{false≢true}
-use Rattle.families.proofs.Multiples.{abs-times}
+use Rattle.lines.proofs.Products.{abs-product}
 use Rattle.families.proofs.Between.{between-small, station-large}
 use Rattle.families.proofs.station_head.is_bounded.Needs as need
 
@@ -19,7 +19,7 @@ returns-then-not-keeps-limits c =
     let y = getD (c .args .ys .now) (c .loop-j .j) (pos 0) in
     let fy : SFits w32 y = search needs in
     let fr : SFits w64 (c .times-y .result) = search needs in
-    let v = ap natAbs (simp toZ-ofZ at (c .times-y .ensures .value)) ∙ abs-times (c .args .d) y in
+    let v = ap natAbs (simp toZ-ofZ at (c .times-y .ensures .value)) ∙ abs-product (pos (c .args .d)) y in
     let large = simp toZ-ofZ at (c .if-not-keeps-limits .ensures tt .1) in
     (λ e. absurd (false≢true e), λ all. absurd (station-large (c .args .d) 1000000 (c .args .ys .now) _ (c .loop-j .j) (c .pre .0) (c .loop-j-test .taken) (λ h. false≢true (large (omega arith))) all))
 
@@ -28,7 +28,7 @@ loop-j-again c =
     let y = getD (c .args .ys .now) (c .loop-j .j) (pos 0) in
     let fy : SFits w32 y = search needs in
     let fr : SFits w64 (c .times-y .result) = search needs in
-    let v = ap natAbs (simp toZ-ofZ at (c .times-y .ensures .value)) ∙ abs-times (c .args .d) y in
+    let v = ap natAbs (simp toZ-ofZ at (c .times-y .ensures .value)) ∙ abs-product (pos (c .args .d)) y in
     let h = simp toZ-ofZ at (c .if-not-keeps-limits .ensures tt .0 refl) in
     below-more _ _ (c .loop-j .inv) (omega arith)
 

@@ -5,7 +5,7 @@ use mir.Syntax.{w32, w128}
 use borrow.Author.Needs.{needs}
 use Rattle.std.proofs.shelf.Signed.{toZ-ofZ}
 use Rattle.loads.proofs.Judging.{below-given}
-use Rattle.loads.proofs.Products.{fits-negative}
+use Rattle.loads.proofs.Sizes.{fits-negative}
 use Rattle.loads.proofs.overloads.is_below_down.Needs as need
 
 pub returns-in-Some : need.returns-in-Some

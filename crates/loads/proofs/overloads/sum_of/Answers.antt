@@ -6,7 +6,7 @@ use mir.Syntax.{w64, w128}
 use borrow.Author.Needs.{needs}
 use borrow.Author.Differences.{ints}
 use Rattle.std.proofs.shelf.Signed.{toZ-ofZ}
-use Rattle.loads.proofs.Products.{fits-wide}
+use Rattle.loads.proofs.Sizes.{fits-wide}
 use Rattle.loads.proofs.overloads.sum_of.Needs as need
 
 pub add-result : need.add-result

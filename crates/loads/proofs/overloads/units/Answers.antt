@@ -9,7 +9,7 @@ use mir.Syntax.{w64, w128}
 use borrow.Author.Needs.{needs}
 use borrow.Author.Differences.{ints}
 use Rattle.std.proofs.shelf.Signed.{toZ-ofZ}
-use Rattle.loads.proofs.Products.{product-small}
+use Rattle.lines.proofs.Products.{product-small}
 use Rattle.loads.proofs.overloads.units.Needs as need
 
 pub mul-factor : need.mul-factor

@@ -5,7 +5,7 @@ use mir.Val.{SFits}
 use mir.Syntax.{w128}
 use borrow.Author.Differences.{ints}
 use Rattle.std.proofs.shelf.Signed.{toZ-ofZ}
-use Rattle.loads.proofs.Products.{product-small}
+use Rattle.lines.proofs.Products.{product-small}
 use Rattle.loads.proofs.overloads.wide.Needs as need
 
 pub mul-result : need.mul-result

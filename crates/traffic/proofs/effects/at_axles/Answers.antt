@@ -11,7 +11,7 @@ use borrow.Author.Differences.{ints}
 use Rattle.std.proofs.shelf.Signed.{toZ-ofZ, toZ-pos}
 use Rattle.lines.specs.Lines.{line-no}
 use Rattle.traffic.proofs.AxleSums.{axles-are, parts-are}
-use Rattle.loads.proofs.Products.{sum-small, fits-by}
+use Rattle.loads.proofs.Sizes.{sum-small, fits-by}
 use Rattle.traffic.proofs.effects.at_axles.Needs as need
 
 pub add-result-2 : need.add-result-2

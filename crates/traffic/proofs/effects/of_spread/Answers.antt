@@ -10,7 +10,7 @@ use borrow.Author.Differences.{ints}
 use Rattle.std.proofs.shelf.Signed.{toZ-ofZ, toZ-pos}
 use Rattle.lines.specs.Lines.{line-no}
 use Rattle.loads.specs.Loads.{spread-effect}
-use Rattle.loads.proofs.Products.{spread-small}
+use Rattle.loads.proofs.Sizes.{spread-small}
 use Rattle.traffic.proofs.effects.of_spread.Needs as need
 
 pub mul-rate : need.mul-rate

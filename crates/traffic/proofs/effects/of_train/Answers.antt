@@ -9,7 +9,7 @@ use Rattle.std.proofs.shelf.Signed.{toZ-ofZ}
 use Rattle.lines.specs.Lines.{line-no}
 use Rattle.loads.specs.Loads.{lane-load-effect}
 use Rattle.traffic.specs.Records.{beside-train}
-use Rattle.loads.proofs.Products.{sum-small, fits-by}
+use Rattle.loads.proofs.Sizes.{sum-small, fits-by}
 use Rattle.traffic.proofs.effects.of_train.Needs as need
 
 pub add-result-2 : need.add-result-2

@@ -4,7 +4,7 @@ use mir.Val.{SFits}
 use mir.Syntax.{w64}
 use borrow.Author.Differences.{ints}
 use Rattle.std.proofs.shelf.Signed.{toZ-ofZ}
-use Rattle.loads.proofs.Products.{product-small}
+use Rattle.lines.proofs.Products.{product-small}
 use Rattle.traffic.proofs.sums.of_share.Needs as need
 
 pub mul-result : need.mul-result
