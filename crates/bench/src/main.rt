@@ -1,4 +1,6 @@
 //! Finds the worst arrangements of all four classes, upwards and downwards, on a line of 100 m, and prints their sums. It is run to see how long that takes.
+#![tactic(auto)]
+
 ghost use Rattle.std.specs.Prelude.{◌<◌, ◌≤◌};
 
 use families::rows::StationHead;

@@ -29,8 +29,8 @@ fn try_slot<S: Sense>(
 ) -> Keeper<S, Layout>
     requires few { so_far.place.count ≤ 6 }
     requires room { keeps carriageway.now.deck slot ≡ true → (rest.place.count < 6) × (unsigned_abs rest.sum ≤ 165000000000000000) }
-    ensures sum { result.sum ≡ tried_of beyond carriageway.now.deck worths.now slot rest.sum so_far.sum (rest.sum +ℤ worth worths.now slot) so_far.sum }
-    ensures place { slots_of result.place ≡ tried_of beyond carriageway.now.deck worths.now slot rest.sum so_far.sum (slot ∷ slots_of rest.place) (slots_of so_far.place) }
+    ensures sum { result.sum ≡ tried_of S.beyond carriageway.now.deck worths.now slot rest.sum so_far.sum (rest.sum +ℤ worth worths.now slot) so_far.sum }
+    ensures place { slots_of result.place ≡ tried_of S.beyond carriageway.now.deck worths.now slot rest.sum so_far.sum (slot ∷ slots_of rest.place) (slots_of so_far.place) }
     ensures few { result.place.count ≤ 6 }
 {
     if !fits(carriageway.deck, slot) {
@@ -52,10 +52,10 @@ fn cell<S: Sense>(
     past_heavy: Keeper<S, Layout>,
 ) -> Keeper<S, Layout>
     requires near { s ≤ 102 }
-    requires next { Cell beyond carriageway.now.deck worths.now most (s + 1) next.sum next.place }
-    requires past_light { Cell beyond carriageway.now.deck worths.now most (s + 20) past_light.sum past_light.place }
-    requires past_heavy { 0 < most → Cell beyond carriageway.now.deck worths.now (most - 1) (s + 30) past_heavy.sum past_heavy.place }
-    ensures { Cell beyond carriageway.now.deck worths.now most s result.sum result.place }
+    requires next { Cell S.beyond carriageway.now.deck worths.now most (s + 1) next.sum next.place }
+    requires past_light { Cell S.beyond carriageway.now.deck worths.now most (s + 20) past_light.sum past_light.place }
+    requires past_heavy { 0 < most → Cell S.beyond carriageway.now.deck worths.now (most - 1) (s + 30) past_heavy.sum past_heavy.place }
+    ensures { Cell S.beyond carriageway.now.deck worths.now most s result.sum result.place }
 {
     let light = Slot {
         heavy: false,
@@ -80,8 +80,8 @@ fn row<S: Sense>(
     fewer: &[Keeper<S, Layout>],
 ) -> [Keeper<S, Layout>; 133]
     requires long { length fewer.now ≡ 133 }
-    requires fewer { 0 < most → Row beyond carriageway.now.deck worths.now (most - 1) 0 fewer.now }
-    ensures { Row beyond carriageway.now.deck worths.now most 0 result }
+    requires fewer { 0 < most → Row S.beyond carriageway.now.deck worths.now (most - 1) 0 fewer.now }
+    ensures { Row S.beyond carriageway.now.deck worths.now most 0 result }
 {
     let mut cells = [Keeper::new(0, NO_LANES); 133];
     for s in (0..103u8).rev() {
@@ -101,7 +101,7 @@ fn row<S: Sense>(
 
 /// Of all legal layouts of lanes across the carriageway, the one whose total goes furthest.
 pub fn worst_layout<S: Sense>(carriageway: &Carriageway, worths: &Worths) -> Keeper<S, Layout>
-    ensures worst { Worst beyond (total worths.now) (LegalLayout carriageway.now.deck) result.sum (slots_of result.place) }
+    ensures worst { Worst S.beyond (total worths.now) (LegalLayout carriageway.now.deck) result.sum (slots_of result.place) }
     ensures few { result.place.count ≤ 6 }
     ensures small { unsigned_abs result.sum ≤ 198000000000000000 }
 {

@@ -8,7 +8,7 @@ use crate::questions::{Question, Refusal};
 
 // Whether there are at most 16 heads and their counts add up to the rows.
 fn adds_up<T: Head>(heads: &[T], rows: &[T::Row]) -> bool
-    ensures { Decides result (Counted taken heads.now rows.now) }
+    ensures { Decides result (Counted T.taken heads.now rows.now) }
 {
     if heads.len() > 16 {
         return false;
@@ -22,8 +22,8 @@ fn adds_up<T: Head>(heads: &[T], rows: &[T::Row]) -> bool
 
 // The rows of a head, the first of which stands at `at`.
 pub(crate) fn own_rows<'a, T: Head>(head: &T, rows: &'a [T::Row], at: usize) -> &'a [T::Row]
-    requires { at + taken head.now ≤ length rows.now }
-    ensures { result.now ≡ take (taken head.now) (drop at rows.now) }
+    requires { at + T.taken head.now ≤ length rows.now }
+    ensures { result.now ≡ take (T.taken head.now) (drop at rows.now) }
 {
     let end = at + head.taken() as usize;
     &rows[at..end]
@@ -31,7 +31,7 @@ pub(crate) fn own_rows<'a, T: Head>(head: &T, rows: &'a [T::Row], at: usize) -> 
 
 // The questions in their order, and the first no.
 pub(crate) fn ask<T: Head>(heads: &[T], rows: &[T::Row]) -> Result<(), Refusal>
-    ensures { Tells (questions taken draft heads.now rows.now) result }
+    ensures { Tells (questions T.taken T.draft heads.now rows.now) result }
 {
     if !adds_up(heads, rows) {
         return Err(Refusal {
@@ -55,8 +55,8 @@ pub(crate) fn ask<T: Head>(heads: &[T], rows: &[T::Row]) -> Result<(), Refusal>
 
 // Where the rows of head i begin.
 pub(crate) fn start_of<T: Head>(heads: &[T], i: usize) -> usize
-    requires { (i ≤ length heads.now) × (sum_by taken heads.now < 2 ^ 64) }
-    ensures { result ≡ start taken heads.now i }
+    requires { (i ≤ length heads.now) × (sum_by T.taken heads.now < 2 ^ 64) }
+    ensures { result ≡ start T.taken heads.now i }
 {
     let mut at: usize = 0;
     for k in 0..i {

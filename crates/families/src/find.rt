@@ -21,8 +21,8 @@ fn place_of(line: i32, n: usize) -> Option<usize>
 
 // The head of a line's number, and its rows.
 fn find<'a, T: Head>(heads: &'a [T], rows: &'a [T::Row], line: i32) -> Option<(&'a T, &'a [T::Row])>
-    requires { AllYes (questions taken draft heads.now rows.now) }
-    ensures { elim result [ Some p ↦ Found (draft p.0.now p.1.now) None × (line_no (lines_of (drafts taken draft heads.now rows.now)) line ≡ (draft p.0.now p.1.now).line) | None ↦ line_no (lines_of (drafts taken draft heads.now rows.now)) line ≡ no_line ] }
+    requires { AllYes (questions T.taken T.draft heads.now rows.now) }
+    ensures { elim result [ Some p ↦ Found (T.draft p.0.now p.1.now) None × (line_no (lines_of (drafts T.taken T.draft heads.now rows.now)) line ≡ (T.draft p.0.now p.1.now).line) | None ↦ line_no (lines_of (drafts T.taken T.draft heads.now rows.now)) line ≡ no_line ] }
 {
     match place_of(line, heads.len()) {
         Some(i) => {
@@ -34,8 +34,8 @@ fn find<'a, T: Head>(heads: &'a [T], rows: &'a [T::Row], line: i32) -> Option<(&
 }
 
 pub(crate) fn length_of<T: Head>(heads: &[T], rows: &[T::Row], line: i32) -> i64
-    requires { AllYes (questions taken draft heads.now rows.now) }
-    ensures value { result ≡ pos (line_no (lines_of (drafts taken draft heads.now rows.now)) line).len }
+    requires { AllYes (questions T.taken T.draft heads.now rows.now) }
+    ensures value { result ≡ pos (line_no (lines_of (drafts T.taken T.draft heads.now rows.now)) line).len }
     ensures small { unsigned_abs result ≤ 100000 }
 {
     match find(heads, rows, line) {
@@ -45,8 +45,8 @@ pub(crate) fn length_of<T: Head>(heads: &[T], rows: &[T::Row], line: i32) -> i64
 }
 
 pub(crate) fn scale_of<T: Head>(heads: &[T], rows: &[T::Row], line: i32) -> i64
-    requires { AllYes (questions taken draft heads.now rows.now) }
-    ensures value { result ≡ pos (line_no (lines_of (drafts taken draft heads.now rows.now)) line).scale }
+    requires { AllYes (questions T.taken T.draft heads.now rows.now) }
+    ensures value { result ≡ pos (line_no (lines_of (drafts T.taken T.draft heads.now rows.now)) line).scale }
     ensures small { unsigned_abs result ≤ 1000 }
 {
     match find(heads, rows, line) {
@@ -56,8 +56,8 @@ pub(crate) fn scale_of<T: Head>(heads: &[T], rows: &[T::Row], line: i32) -> i64
 }
 
 pub(crate) fn ordinate_of<T: Head>(heads: &[T], rows: &[T::Row], line: i32, x: i64) -> i64
-    requires { AllYes (questions taken draft heads.now rows.now) }
-    ensures value { result ≡ ordinate_or_zero (line_no (lines_of (drafts taken draft heads.now rows.now)) line) x }
+    requires { AllYes (questions T.taken T.draft heads.now rows.now) }
+    ensures value { result ≡ ordinate_or_zero (line_no (lines_of (drafts T.taken T.draft heads.now rows.now)) line) x }
     ensures small { unsigned_abs result ≤ 1000000 }
 {
     match find(heads, rows, line) {

@@ -1,4 +1,6 @@
 //! Families of influence lines that are given by stations or by runs, each as a list of heads and a list of rows.
+#![tactic(auto)]
+
 mod check;
 mod find;
 mod head;

@@ -1,5 +1,7 @@
 //! Weighs each figure that was worked out by hand on the tooth, a line of ordinates 0 1 2 1 0,
 //! and prints what it weighed, what came out and what was expected; then some widths.
+#![tactic(auto)]
+
 mod hand;
 
 use families::rows::{Run, RunHead};

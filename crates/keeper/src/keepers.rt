@@ -28,8 +28,8 @@ impl<S: Sense, P: Drop> Keeper<S, P> {
 
     /// Takes a sum that goes further; of equals the first is kept.
     pub fn offer(&mut self, sum: i64, place: P)
-        ensures sum { self.new.sum ≡ further_of beyond sum self.old.sum sum self.old.sum }
-        ensures place { self.new.place ≡ further_of beyond sum self.old.sum place self.old.place }
+        ensures sum { self.new.sum ≡ further_of S.beyond sum self.old.sum sum self.old.sum }
+        ensures place { self.new.place ≡ further_of S.beyond sum self.old.sum place self.old.place }
     {
         if S::further(sum, self.sum) {
             self.sum = sum;

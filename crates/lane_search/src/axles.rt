@@ -75,8 +75,8 @@ fn offer_starts<S: Sense>(
     requires tame { Tame ys.now }
     requires light { Limited weights }
     requires span { (negsuc 15998 ≤ℤ from) × ((from ≤ℤ to) × (to ≤ℤ pos 100001)) }
-    requires before { Worst beyond (at_three (sampled ys.now) spacing weights) (Between (negsuc 15999) from) before.sum before.place }
-    ensures { Worst beyond (at_three (sampled ys.now) spacing weights) (Between (negsuc 15999) to) result.sum result.place }
+    requires before { Worst S.beyond (at_three (sampled ys.now) spacing weights) (Between (negsuc 15999) from) before.sum before.place }
+    ensures { Worst S.beyond (at_three (sampled ys.now) spacing weights) (Between (negsuc 15999) to) result.sum result.place }
 {
     let mut best = before;
     for start in from..to {
@@ -96,8 +96,8 @@ fn offer_inner<S: Sense>(
     requires tame { Tame ys.now }
     requires light { Limited weights }
     requires on { to ≡ length ys.now - 2 * spacing }
-    requires before { Worst beyond (at_three (sampled ys.now) spacing weights) (Between (negsuc 15999) (pos 0)) before.sum before.place }
-    ensures { Worst beyond (at_three (sampled ys.now) spacing weights) (Between (negsuc 15999) (pos to)) result.sum result.place }
+    requires before { Worst S.beyond (at_three (sampled ys.now) spacing weights) (Between (negsuc 15999) (pos 0)) before.sum before.place }
+    ensures { Worst S.beyond (at_three (sampled ys.now) spacing weights) (Between (negsuc 15999) (pos to)) result.sum result.place }
 {
     let mut best = before;
     for start in 0..to {
@@ -111,7 +111,7 @@ fn furthest_start<S: Sense>(ys: &[i32], spacing: u16, weights: (u16, u16, u16)) 
     requires tame { Tame ys.now }
     requires light { Limited weights }
     requires close { spacing ≤ 2000 }
-    ensures { Worst beyond (at_three (sampled ys.now) spacing weights) Start result.sum result.place }
+    ensures { Worst S.beyond (at_three (sampled ys.now) spacing weights) Start result.sum result.place }
 {
     let length = 2 * spacing as usize;
     let first: Keeper<S, i64> = Keeper::new(axles_at(ys, spacing, weights, -16_000), -16_000);
@@ -124,7 +124,7 @@ fn furthest_start<S: Sense>(ys: &[i32], spacing: u16, weights: (u16, u16, u16)) 
 // Of the starts of one group, the one whose effect goes furthest.
 fn of_group<S: Sense>(ys: &[i32], set: &LoadSet, group: Group) -> Keeper<S, LanePlace>
     requires { Tame ys.now }
-    ensures { Reaches beyond (sampled ys.now) set.now.loads (OfGroup group) result.sum result.place }
+    ensures { Reaches S.beyond (sampled ys.now) set.now.loads (OfGroup group) result.sum result.place }
 {
     let weights = axle_weights(set, group);
     let best: Keeper<S, i64> = furthest_start(ys, set.loads.spacing, weights);
@@ -140,8 +140,8 @@ fn of_group<S: Sense>(ys: &[i32], set: &LoadSet, group: Group) -> Keeper<S, Lane
 // Offers a group to the best of those before it.
 fn offer_group<S: Sense>(best: &mut Keeper<S, LanePlace>, ys: &[i32], set: &LoadSet, group: Group)
     requires tame { Tame ys.now }
-    requires before { Reaches beyond (sampled ys.now) set.now.loads (UpTo (number group - 1)) best.old.sum best.old.place }
-    ensures { Reaches beyond (sampled ys.now) set.now.loads (UpTo (number group)) best.new.sum best.new.place }
+    requires before { Reaches S.beyond (sampled ys.now) set.now.loads (UpTo (number group - 1)) best.old.sum best.old.place }
+    ensures { Reaches S.beyond (sampled ys.now) set.now.loads (UpTo (number group)) best.new.sum best.new.place }
 {
     let other: Keeper<S, LanePlace> = of_group(ys, set, group);
     best.offer(other.sum, other.place);
@@ -150,7 +150,7 @@ fn offer_group<S: Sense>(best: &mut Keeper<S, LanePlace>, ys: &[i32], set: &Load
 // Of all groups of axles at all starts, the one whose effect goes furthest.
 pub(crate) fn furthest_axles<S: Sense>(ys: &[i32], set: &LoadSet) -> Keeper<S, LanePlace>
     requires { Tame ys.now }
-    ensures { Reaches beyond (sampled ys.now) set.now.loads OfAxles result.sum result.place }
+    ensures { Reaches S.beyond (sampled ys.now) set.now.loads OfAxles result.sum result.place }
 {
     let mut best: Keeper<S, LanePlace> = of_group(ys, set, Group::Single);
     offer_group(&mut best, ys, set, Group::Bogie12);

@@ -65,10 +65,10 @@ fn block_start<S: Sense>(
 ) -> Keeper<S, i64>
     requires tame { Tame ys.now }
     requires sized { (Sized 3000000000000000 sums.now) × (unsigned_abs all ≤ 134400000000000) }
-    requires rest { (x : ℤ) → between sums.now x load.length +ℤ all ≡ rest beyond (sampled ys.now) load x }
+    requires rest { (x : ℤ) → between sums.now x load.length +ℤ all ≡ rest S.beyond (sampled ys.now) load x }
     requires moderate { Moderate load }
     requires row { length tops.old ≡ load.length + 1 }
-    ensures { Begun beyond (sampled ys.now) load (pos 100001) result.sum result.place }
+    ensures { Begun S.beyond (sampled ys.now) load (pos 100001) result.sum result.place }
 {
     best_tops::<S>(ys, -16_000, tops);
     let mut at = 0;
@@ -87,7 +87,7 @@ fn block_start<S: Sense>(
 fn furthest_place<S: Sense>(ys: &[i32], from: i64, len: u16) -> Keeper<S, i64>
     requires tame { Tame ys.now }
     requires near { Start from }
-    ensures { Worst beyond (ordinate_or_zero (sampled ys.now)) (Between from (from +ℤ pos (len + 1))) result.sum result.place }
+    ensures { Worst S.beyond (ordinate_or_zero (sampled ys.now)) (Between from (from +ℤ pos (len + 1))) result.sum result.place }
 {
     let mut best: Keeper<S, i64> = Keeper::new(ordinate_at(ys, from), from);
     for z in from + 1..from + len as i64 + 1 {
@@ -106,10 +106,10 @@ pub(crate) fn furthest_block<S: Sense>(
 ) -> Keeper<S, (i64, i64)>
     requires tame { Tame ys.now }
     requires sized { (Sized 3000000000000000 sums.now) × (unsigned_abs all ≤ 134400000000000) }
-    requires rest { (x : ℤ) → between sums.now x load.length +ℤ all ≡ rest beyond (sampled ys.now) load x }
+    requires rest { (x : ℤ) → between sums.now x load.length +ℤ all ≡ rest S.beyond (sampled ys.now) load x }
     requires moderate { Moderate load }
     requires row { length tops.old ≡ load.length + 1 }
-    ensures { Worst beyond (laden beyond (sampled ys.now) load) (On load.length (pos 100001)) result.sum result.place }
+    ensures { Worst S.beyond (laden S.beyond (sampled ys.now) load) (On load.length (pos 100001)) result.sum result.place }
 {
     let best: Keeper<S, i64> = block_start(ys, sums, all, load, tops);
     let axle: Keeper<S, i64> = furthest_place(ys, best.place, load.length);

@@ -17,7 +17,7 @@ use traffic::records::{Code, Sign};
 
 // The p sign of the cells that go further than 0.
 fn sign_of<S: Sense>() -> Sign
-    ensures { (d : ℤ) → fills result d ≡ beyond d (pos 0) }
+    ensures { (d : ℤ) → fills result d ≡ S.beyond d (pos 0) }
 {
     if S::further(1, 0) {
         Sign::Above
@@ -52,10 +52,10 @@ fn furthest_over<S: Sense>(
 ) -> Keeper<S, (i64, i64)>
     requires tame { Tame ys.now }
     requires areas { Running (sampled ys.now) (λ _. true) areas.now }
-    requires helps { Running (sampled ys.now) (gains beyond (sampled ys.now)) helps.now }
+    requires helps { Running (sampled ys.now) (gains S.beyond (sampled ys.now)) helps.now }
     requires moderate { Moderate load }
     requires rows { (length sums.old ≡ length areas.now) × (length tops.old ≡ 16001) }
-    ensures { Worst beyond (laden beyond (sampled ys.now) load) (On load.length (pos 100001)) result.sum result.place }
+    ensures { Worst S.beyond (laden S.beyond (sampled ys.now) load) (On load.length (pos 100001)) result.sum result.place }
 {
     weigh_sums(areas, helps, load, sums);
     let all = times(load.lane, helps[areas.len() - 1]);
@@ -74,9 +74,9 @@ pub(crate) fn furthest_vehicle<S: Sense>(
 ) -> Keeper<S, LanePlace>
     requires tame { Tame ys.now }
     requires areas { Running (sampled ys.now) (λ _. true) areas.now }
-    requires helps { Running (sampled ys.now) (gains beyond (sampled ys.now)) helps.now }
+    requires helps { Running (sampled ys.now) (gains S.beyond (sampled ys.now)) helps.now }
     requires rows { (length sums.old ≡ length areas.now) × (length tops.old ≡ 16001) }
-    ensures { Reaches beyond (sampled ys.now) set.now.loads (OfVehicle set.now.loads) result.sum result.place }
+    ensures { Reaches S.beyond (sampled ys.now) set.now.loads (OfVehicle set.now.loads) result.sum result.place }
 {
     let load = block_of(set.loads.vehicle, set.loads.extra, 0);
     let found = furthest_over::<S>(ys, areas, helps, load, sums, tops);
@@ -101,9 +101,9 @@ pub(crate) fn furthest_train<S: Sense>(
 ) -> Keeper<S, LanePlace>
     requires tame { Tame ys.now }
     requires areas { Running (sampled ys.now) (λ _. true) areas.now }
-    requires helps { Running (sampled ys.now) (gains beyond (sampled ys.now)) helps.now }
+    requires helps { Running (sampled ys.now) (gains S.beyond (sampled ys.now)) helps.now }
     requires rows { (length sums.old ≡ length areas.now) × (length tops.old ≡ 16001) }
-    ensures { Reaches beyond (sampled ys.now) set.now.loads (OfTrain set.now.loads) result.sum result.place }
+    ensures { Reaches S.beyond (sampled ys.now) set.now.loads (OfTrain set.now.loads) result.sum result.place }
 {
     let load = block_of(set.loads.train, set.loads.extra, set.loads.lane);
     let found = furthest_over::<S>(ys, areas, helps, load, sums, tops);
@@ -124,8 +124,8 @@ pub(crate) fn furthest_light<S: Sense>(
     set: &LoadSet,
 ) -> Keeper<S, LanePlace>
     requires tame { Tame ys.now }
-    requires helps { Running (sampled ys.now) (gains beyond (sampled ys.now)) helps.now }
-    ensures { Reaches beyond (sampled ys.now) set.now.loads (Kind set.now.loads false) result.sum result.place }
+    requires helps { Running (sampled ys.now) (gains S.beyond (sampled ys.now)) helps.now }
+    ensures { Reaches S.beyond (sampled ys.now) set.now.loads (Kind set.now.loads false) result.sum result.place }
 {
     let place = LanePlace {
         code: Code::Light,

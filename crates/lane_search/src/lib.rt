@@ -1,4 +1,6 @@
 //! The load of a lane whose effect goes furthest, over every code, every start, every place of A and every set of cells.
+#![tactic(auto)]
+
 mod axles;
 mod block_loads;
 mod blocks;

@@ -32,9 +32,9 @@ fn furthest_heavy<S: Sense>(
 ) -> Keeper<S, LanePlace>
     requires tame { Tame ys.now }
     requires areas { Running (sampled ys.now) (λ _. true) areas.now }
-    requires helps { Running (sampled ys.now) (gains beyond (sampled ys.now)) helps.now }
+    requires helps { Running (sampled ys.now) (gains S.beyond (sampled ys.now)) helps.now }
     requires rows { (length sums.old ≡ length areas.now) × (length tops.old ≡ 16001) }
-    ensures { Reaches beyond (sampled ys.now) set.now.loads (Kind set.now.loads true) result.sum result.place }
+    ensures { Reaches S.beyond (sampled ys.now) set.now.loads (Kind set.now.loads true) result.sum result.place }
 {
     let mut best: Keeper<S, LanePlace> = furthest_axles(ys, set);
     let vehicle: Keeper<S, LanePlace> = furthest_vehicle(ys, areas, helps, set, sums, tops);
@@ -53,8 +53,8 @@ fn heavy_of<S: Sense>(
 ) -> Keeper<S, LanePlace>
     requires tame { Tame ys.now }
     requires areas { Running (sampled ys.now) (λ _. true) areas.now }
-    requires helps { Running (sampled ys.now) (gains beyond (sampled ys.now)) helps.now }
-    ensures { Reaches beyond (sampled ys.now) set.now.loads (Kind set.now.loads true) result.sum result.place }
+    requires helps { Running (sampled ys.now) (gains S.beyond (sampled ys.now)) helps.now }
+    ensures { Reaches S.beyond (sampled ys.now) set.now.loads (Kind set.now.loads true) result.sum result.place }
 {
     let mut sums = [0i64; 100_001];
     let mut tops = [0i64; 16_001];
@@ -64,8 +64,8 @@ fn heavy_of<S: Sense>(
 
 fn reach_of<S: Sense>(ys: &[i32], set: &LoadSet) -> Reach<S>
     requires { Tame ys.now }
-    ensures heavy { Reaches beyond (sampled ys.now) set.now.loads (Kind set.now.loads true) result.heavy.sum result.heavy.place }
-    ensures light { Reaches beyond (sampled ys.now) set.now.loads (Kind set.now.loads false) result.light.sum result.light.place }
+    ensures heavy { Reaches S.beyond (sampled ys.now) set.now.loads (Kind set.now.loads true) result.heavy.sum result.heavy.place }
+    ensures light { Reaches S.beyond (sampled ys.now) set.now.loads (Kind set.now.loads false) result.light.sum result.light.place }
 {
     let n = ys.len();
     let mut all = [0i64; 100_001];
@@ -81,8 +81,8 @@ fn reach_of<S: Sense>(ys: &[i32], set: &LoadSet) -> Reach<S>
 
 /// Of all loads that may stand in a heavy lane, and of all sets of cells under p in a light one, those whose effects go furthest.
 pub fn furthest_loads<S: Sense>(sample: &Sample, set: &LoadSet) -> Reach<S>
-    ensures heavy { Reaches beyond (line_read sample.now) set.now.loads (Kind set.now.loads true) result.heavy.sum result.heavy.place }
-    ensures light { Reaches beyond (line_read sample.now) set.now.loads (Kind set.now.loads false) result.light.sum result.light.place }
+    ensures heavy { Reaches S.beyond (line_read sample.now) set.now.loads (Kind set.now.loads true) result.heavy.sum result.heavy.place }
+    ensures light { Reaches S.beyond (line_read sample.now) set.now.loads (Kind set.now.loads false) result.light.sum result.light.place }
 {
     let n = sample.length as usize + 1;
     reach_of::<S>(&sample.ordinates[0..n], set)

@@ -9,7 +9,7 @@ use lines::family::Family;
 impl Sample {
     /// Reads a line of a family; where there is no such line, one of length 0 with the ordinate 0.
     pub fn of<F: Family>(family: &F, line: i32) -> Sample
-        ensures { Alike (line_read result) (line_no (lines family.now) line) }
+        ensures { Alike (line_read result) (line_no (F.lines family.now) line) }
     {
         let length = family.length(line) as u32;
         let mut ordinates = [0i32; 100_001];

@@ -9,7 +9,7 @@ use keeper::senses::Sense;
 // What a cell adds: its double area, if every cell counts or this one goes further than 0.
 fn part_of<S: Sense>(area: i64, every: bool) -> i64
     requires { unsigned_abs area ≤ 2000000 }
-    ensures value { result ≡ (if every || beyond area (pos 0) then area else pos 0) }
+    ensures value { result ≡ (if every || S.beyond area (pos 0) then area else pos 0) }
     ensures small { unsigned_abs result ≤ 2000000 }
 {
     if every || S::further(area, 0) {
@@ -23,7 +23,7 @@ fn part_of<S: Sense>(area: i64, every: bool) -> i64
 pub(crate) fn add_up<S: Sense>(ys: &[i32], every: bool, sums: &mut [i64])
     requires tame { Tame ys.now }
     requires long { length sums.old ≡ length ys.now }
-    ensures { Running (sampled ys.now) (λ k. every || gains beyond (sampled ys.now) k) sums.new }
+    ensures { Running (sampled ys.now) (λ k. every || gains S.beyond (sampled ys.now) k) sums.new }
 {
     let mut sum = 0;
     sums[0] = 0;

@@ -15,7 +15,7 @@ fn fill_back<S: Sense>(ys: &[i32], from: i64, tops: &mut [i64])
     requires near { Start from }
     requires some { 0 < length tops.old }
     requires few { length tops.old ≤ 16001 }
-    ensures { Backs beyond (sampled ys.now) from 0 tops.new }
+    ensures { Backs S.beyond (sampled ys.now) from 0 tops.new }
 {
     let mut at = tops.len() - 1;
     let mut last = from + at as i64;
@@ -31,7 +31,7 @@ fn fill_back<S: Sense>(ys: &[i32], from: i64, tops: &mut [i64])
 
 // The new ordinate where it goes further than the old one; else the old one.
 fn further_of<S: Sense>(new: i64, old: i64) -> i64
-    ensures { result ≡ further_of beyond new old new old }
+    ensures { result ≡ further_of S.beyond new old new old }
 {
     if S::further(new, old) { new } else { old }
 }
@@ -42,8 +42,8 @@ fn join_ahead<S: Sense>(ys: &[i32], from: i64, tops: &mut [i64])
     requires near { Start from }
     requires some { 0 < length tops.old }
     requires few { length tops.old ≤ 16001 }
-    requires backs { Backs beyond (sampled ys.now) from 0 tops.old }
-    ensures { Fulls beyond (sampled ys.now) from (length tops.new) tops.new }
+    requires backs { Backs S.beyond (sampled ys.now) from 0 tops.old }
+    ensures { Fulls S.beyond (sampled ys.now) from (length tops.new) tops.new }
 {
     let mut last = from + tops.len() as i64;
     let mut ahead: Keeper<S, i64> = Keeper::new(ordinate_at(ys, last), last);
@@ -60,7 +60,7 @@ pub(crate) fn best_tops<S: Sense>(ys: &[i32], from: i64, tops: &mut [i64])
     requires near { Start from }
     requires some { 0 < length tops.old }
     requires few { length tops.old ≤ 16001 }
-    ensures { Fulls beyond (sampled ys.now) from (length tops.new) tops.new }
+    ensures { Fulls S.beyond (sampled ys.now) from (length tops.new) tops.new }
 {
     fill_back::<S>(ys, from, tops);
     join_ahead::<S>(ys, from, tops);
@@ -72,9 +72,9 @@ pub(crate) fn row_at<S: Sense>(ys: &[i32], start: i64, at: usize, tops: &mut [i6
     requires near { Start start }
     requires some { 0 < length tops.old }
     requires few { length tops.old ≤ 16001 }
-    requires full { at < length tops.old → Fulls beyond (sampled ys.now) (start -ℤ pos at) (length tops.old) tops.old }
+    requires full { at < length tops.old → Fulls S.beyond (sampled ys.now) (start -ℤ pos at) (length tops.old) tops.old }
     ensures within { result < length tops.new }
-    ensures full { Fulls beyond (sampled ys.now) (start -ℤ pos result) (length tops.new) tops.new }
+    ensures full { Fulls S.beyond (sampled ys.now) (start -ℤ pos result) (length tops.new) tops.new }
 {
     if at < tops.len() {
         return at;

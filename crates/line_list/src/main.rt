@@ -1,5 +1,7 @@
 //! Makes influence lines of a small bridge from figures that stand here, joins them and lists each;
 //! then shows what is refused.
+#![tactic(auto)]
+
 mod figures;
 
 use families::questions::Refusal;

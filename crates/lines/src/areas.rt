@@ -7,7 +7,7 @@ use crate::family::Family;
 
 /// The double area of the cell k of a line; 0 where there is no such cell.
 pub fn double_area<F: Family>(f: &F, line: i32, k: i64) -> i64
-    ensures value { result ≡ cell_area (line_no (lines f.now) line) k }
+    ensures value { result ≡ cell_area (line_no (F.lines f.now) line) k }
     ensures small { unsigned_abs result ≤ 2000000 }
 {
     if k >= 0 && k < f.length(line) {
@@ -41,7 +41,7 @@ fn clipped_end(a: i64, len: u32, n: i64) -> u32
 
 /// The double areas of a line's cells from a on, len of them: those from a to a + len.
 pub fn double_areas<F: Family>(f: &F, line: i32, a: i64, len: u32) -> i64
-    ensures value { result ≡ areas (line_no (lines f.now) line) (block a len) }
+    ensures value { result ≡ areas (line_no (F.lines f.now) line) (block a len) }
     ensures small { unsigned_abs result ≤ 200000000000 }
     ensures short { unsigned_abs result ≤ len * 2000000 }
 {

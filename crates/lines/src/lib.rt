@@ -1,4 +1,6 @@
 //! Influence lines, families of them, and the areas under them.
+#![tactic(auto)]
+
 pub mod areas;
 pub mod family;
 pub mod joins;

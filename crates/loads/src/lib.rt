@@ -1,4 +1,6 @@
 //! Loads of the classes, lanes, shares, and when a traffic sum overloads a member.
+#![tactic(auto)]
+
 pub mod carriageways;
 pub mod classes;
 pub mod decks;

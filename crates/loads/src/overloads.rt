@@ -87,7 +87,7 @@ fn is_below_down(u: i64, figures: &Figures, q: i64) -> bool
 
 /// Whether a traffic sum on a line overloads a member, up or down.
 pub fn overloads<F: Family>(family: &F, line: i32, figures: &Figures, q: i64) -> bool
-    ensures { Decides result (Overloaded (line_no (lines family.now) line) figures.now q) }
+    ensures { Decides result (Overloaded (line_no (F.lines family.now) line) figures.now q) }
 {
     let u = 22_400_000 * family.scale(line);
     let up = is_above_up(u, figures, q);

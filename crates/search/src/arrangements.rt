@@ -29,7 +29,7 @@ fn across<S: Sense, O>(
 ) -> (i64, u8)
     requires on { Moderate on.now }
     requires back { Moderate back.now }
-    ensures { (l : Line) (t : Loads) → Furthest beyond l t on.now → Furthest (λ (a b : ℤ). beyond b a) l t back.now → Reached beyond t carriageway.now.deck l (listed shares.now) result.0 result.1 found.new }
+    ensures { (l : Line) (t : Loads) → Furthest S.beyond l t on.now → Furthest (λ (a b : ℤ). S.beyond b a) l t back.now → Reached S.beyond t carriageway.now.deck l (listed shares.now) result.0 result.1 found.new }
 {
     let worths = worths_of(shares, on, back);
     let worst = worst_layout::<S>(carriageway, &worths);
@@ -47,7 +47,7 @@ pub fn worst<F: Family>(
     direction: Direction,
     found: &mut Record,
 ) -> (i64, u8)
-    ensures { Found direction set.now.loads carriageway.now.deck (line_no (lines family.now) line) (listed shares.now) result.0 result.1 found.new }
+    ensures { Found direction set.now.loads carriageway.now.deck (line_no (F.lines family.now) line) (listed shares.now) result.0 result.1 found.new }
 {
     let sample = Sample::of(family, line);
     let up = furthest_loads::<Up>(&sample, set);

@@ -36,7 +36,7 @@ fn is_taken(cells: Cells, k: u32, area: i64) -> bool
 
 fn double_area_of<F: Family>(family: &F, line: i32, k: u32) -> i64
     requires { k < 100000 }
-    ensures value { result ≡ double_area (line_no (lines family.now) line) k }
+    ensures value { result ≡ double_area (line_no (F.lines family.now) line) k }
     ensures small { unsigned_abs result ≤ 2000000 }
 {
     let x = k as i64;
@@ -46,7 +46,7 @@ fn double_area_of<F: Family>(family: &F, line: i32, k: u32) -> i64
 // What a cell adds to the double areas.
 fn part_of<F: Family>(family: &F, line: i32, cells: Cells, k: u32) -> i64
     requires { k < 100000 }
-    ensures value { result ≡ (if set_of (line_no (lines family.now) line) cells k then double_area (line_no (lines family.now) line) k else pos 0) }
+    ensures value { result ≡ (if set_of (line_no (F.lines family.now) line) cells k then double_area (line_no (F.lines family.now) line) k else pos 0) }
     ensures small { unsigned_abs result ≤ 2000000 }
 {
     let area = double_area_of(family, line, k);
@@ -54,7 +54,7 @@ fn part_of<F: Family>(family: &F, line: i32, cells: Cells, k: u32) -> i64
 }
 
 pub(crate) fn areas_of<F: Family>(family: &F, line: i32, cells: Cells) -> i64
-    ensures value { result ≡ areas (line_no (lines family.now) line) (set_of (line_no (lines family.now) line) cells) }
+    ensures value { result ≡ areas (line_no (F.lines family.now) line) (set_of (line_no (F.lines family.now) line) cells) }
     ensures small { unsigned_abs result ≤ 200000000000 }
 {
     let n = family.length(line) as u32;

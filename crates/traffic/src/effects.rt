@@ -24,7 +24,7 @@ fn times(weight: u32, y: i64) -> i64
 // V over its block from a on.
 fn of_spread<F: Family>(family: &F, line: i32, spread: Spread, a: i32) -> i64
     requires { (7000 ≤ spread.length) × ((spread.length ≤ 16000) × (spread.weight ≤ 800)) }
-    ensures value { result ≡ spread_effect (line_no (lines family.now) line) spread a }
+    ensures value { result ≡ spread_effect (line_no (F.lines family.now) line) spread a }
     ensures small { unsigned_abs result ≤ 179200000000000 }
 {
     let rate = 112_000 / spread.length as u32 * spread.weight as u32;
@@ -37,7 +37,7 @@ fn of_spread<F: Family>(family: &F, line: i32, spread: Spread, a: i32) -> i64
 // A at z.
 fn of_extra<F: Family>(family: &F, line: i32, weight: u16, z: i32) -> i64
     requires { weight ≤ 50 }
-    ensures value { result ≡ axle_effect (line_no (lines family.now) line) weight z }
+    ensures value { result ≡ axle_effect (line_no (F.lines family.now) line) weight z }
     ensures small { unsigned_abs result ≤ 11200000000000 }
 {
     times(224_000 * weight as u32, family.ordinate(line, z as i64))
@@ -46,7 +46,7 @@ fn of_extra<F: Family>(family: &F, line: i32, weight: u16, z: i32) -> i64
 // p on cells.
 fn of_lane_load<F: Family>(family: &F, line: i32, weight: u16, cells: Cells) -> i64
     requires { weight ≤ 6 }
-    ensures value { result ≡ lane_load_effect (line_no (lines family.now) line) weight (set_of (line_no (lines family.now) line) cells) }
+    ensures value { result ≡ lane_load_effect (line_no (F.lines family.now) line) weight (set_of (line_no (F.lines family.now) line) cells) }
     ensures small { unsigned_abs result ≤ 134400000000000 }
 {
     times(112 * weight as u32, areas_of(family, line, cells))
@@ -55,7 +55,7 @@ fn of_lane_load<F: Family>(family: &F, line: i32, weight: u16, cells: Cells) -> 
 // An axle of a group: its weight times the ordinate.
 fn of_axle<F: Family>(family: &F, line: i32, weight: u16, x: i64) -> i64
     requires { weight ≤ 200 }
-    ensures value { result ≡ pos weight *ℤ ordinate_or_zero (line_no (lines family.now) line) x }
+    ensures value { result ≡ pos weight *ℤ ordinate_or_zero (line_no (F.lines family.now) line) x }
     ensures small { unsigned_abs result ≤ 200000000 }
 {
     times(weight as u32, family.ordinate(line, x))
@@ -88,7 +88,7 @@ pub fn axle_weights(set: &LoadSet, group: Group) -> (u16, u16, u16)
 // The weights of a group times the ordinates at its axles, the first at a.
 fn at_axles<F: Family>(family: &F, line: i32, set: &LoadSet, group: Group, a: i64) -> i64
     requires { unsigned_abs a ≤ 4294967296 }
-    ensures value { result ≡ at_axles (line_no (lines family.now) line) set.now.loads.spacing a (weights set.now.loads group) }
+    ensures value { result ≡ at_axles (line_no (F.lines family.now) line) set.now.loads.spacing a (weights set.now.loads group) }
     ensures small { unsigned_abs result ≤ 600000000 }
 {
     let (u, v, w) = weights_of(&set.loads, group);
@@ -98,21 +98,21 @@ fn at_axles<F: Family>(family: &F, line: i32, set: &LoadSet, group: Group, a: i6
 }
 
 fn of_axles<F: Family>(family: &F, line: i32, set: &LoadSet, group: Group, a: i32) -> i64
-    ensures value { result ≡ lane_effect (line_no (lines family.now) line) set.now.loads (axles group a) }
+    ensures value { result ≡ lane_effect (line_no (F.lines family.now) line) set.now.loads (axles group a) }
     ensures small { unsigned_abs result ≤ 330000000000000 }
 {
     times(224_000, at_axles(family, line, set, group, a as i64))
 }
 
 fn of_vehicle<F: Family>(family: &F, line: i32, set: &LoadSet, a: i32, z: i32) -> i64
-    ensures value { result ≡ lane_effect (line_no (lines family.now) line) set.now.loads (vehicle a z) }
+    ensures value { result ≡ lane_effect (line_no (F.lines family.now) line) set.now.loads (vehicle a z) }
     ensures small { unsigned_abs result ≤ 330000000000000 }
 {
     of_spread(family, line, set.loads.vehicle, a) + of_extra(family, line, set.loads.extra, z)
 }
 
 fn of_train<F: Family>(family: &F, line: i32, set: &LoadSet, a: i32, z: i32, sign: Sign) -> i64
-    ensures value { result ≡ lane_effect (line_no (lines family.now) line) set.now.loads (train a z (beside_train (line_no (lines family.now) line) set.now.loads.train.length sign a)) }
+    ensures value { result ≡ lane_effect (line_no (F.lines family.now) line) set.now.loads (train a z (beside_train (line_no (F.lines family.now) line) set.now.loads.train.length sign a)) }
     ensures small { unsigned_abs result ≤ 330000000000000 }
 {
     let beside = Cells::Beside(sign, a, set.loads.train.length);
@@ -123,7 +123,7 @@ fn of_train<F: Family>(family: &F, line: i32, set: &LoadSet, a: i32, z: i32, sig
 
 /// The effect of what a lane of a record carries.
 pub fn lane_effect<F: Family>(family: &F, line: i32, set: &LoadSet, lane: &LaneRecord) -> i64
-    ensures value { result ≡ lane_effect (line_no (lines family.now) line) set.now.loads (lane_of (line_no (lines family.now) line) set.now.loads lane.now).load }
+    ensures value { result ≡ lane_effect (line_no (F.lines family.now) line) set.now.loads (lane_of (line_no (F.lines family.now) line) set.now.loads lane.now).load }
     ensures small { unsigned_abs result ≤ 330000000000000 }
 {
     match lane.code {

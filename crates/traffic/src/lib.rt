@@ -1,4 +1,6 @@
 //! Arrangements as a caller gives them: whether they are legal, and their traffic sum.
+#![tactic(auto)]
+
 mod cells;
 pub mod codes;
 pub mod effects;

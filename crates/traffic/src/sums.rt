@@ -30,7 +30,7 @@ fn shared_effect<F: Family>(
     shares: &Shares,
     lane: &LaneRecord,
 ) -> i64
-    ensures value { result ≡ shared (line_no (lines family.now) line) set.now.loads (listed shares.now) (lane_of (line_no (lines family.now) line) set.now.loads lane.now) }
+    ensures value { result ≡ shared (line_no (F.lines family.now) line) set.now.loads (listed shares.now) (lane_of (line_no (F.lines family.now) line) set.now.loads lane.now) }
     ensures small { unsigned_abs result ≤ 33000000000000000 }
 {
     of_share(shares.at(lane.centre), lane_effect(family, line, set, lane))
@@ -44,7 +44,7 @@ fn sum_of<F: Family>(
     lanes: &[LaneRecord],
 ) -> i64
     requires { length lanes.now ≤ 6 }
-    ensures { result ≡ traffic_sum (line_no (lines family.now) line) set.now.loads (listed shares.now) (map (lane_of (line_no (lines family.now) line) set.now.loads) lanes.now) }
+    ensures { result ≡ traffic_sum (line_no (F.lines family.now) line) set.now.loads (listed shares.now) (map (lane_of (line_no (F.lines family.now) line) set.now.loads) lanes.now) }
 {
     let mut sum = 0;
     for x in lanes {
@@ -62,7 +62,7 @@ pub fn traffic_sum<F: Family>(
     shares: &Shares,
     given: &Record,
 ) -> Option<i64>
-    ensures { Weighed set.now.loads carriageway.now.deck (line_no (lines family.now) line) (listed shares.now) given.now result }
+    ensures { Weighed set.now.loads carriageway.now.deck (line_no (F.lines family.now) line) (listed shares.now) given.now result }
 {
     if !legal(set, carriageway, given) {
         return None;

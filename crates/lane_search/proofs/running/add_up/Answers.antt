@@ -20,7 +20,7 @@ pub overflow-add-sum : goal.overflow-add-sum
 overflow-add-sum g c =
     let f = fits g c in
     let r : SFits w64 c.part-of-sum.result = search rules in
-    simp (to_z-of_z, c.loop-k.sum_is) f
+    simp (to_z-of_z, c.loop-k.sum-is) f
 
 pub loop-k-init : goal.loop-k-init
 loop-k-init g c = add_first (sampled c.args.ys.now) (λ k. c.args.every || gains g.S.Sense.beyond (sampled c.args.ys.now) k) _ _ c.requires.long c.requires.tame.some

@@ -1,4 +1,4 @@
-use Rattle.std.proofs.Common.{◌≡◌, ◌^◌, ◌<◌, ◌≤◌, ℤ, pos, ◌+ℤ◌, nat_abs, ap, ◌∙◌, arith, w64, SFits, rules}
+use Rattle.std.proofs.Common.{◌≡◌, ◌^◌, ◌<◌, ◌≤◌, pos, ◌+ℤ◌, nat_abs, ap, ◌∙◌, arith, w64, SFits, rules}
 use mir.Val.{hbits}
 use borrow.Author.Differences.{ints}
 use Rattle.std.specs.Int.{saturate_to_bits}
@@ -11,8 +11,8 @@ pub returns : goal.returns
 returns c =
     let fa = c.ranges.a in
     let fn = c.ranges.n in
-    let fz : SFits w64 c.saturating-add.result = search rules in
+    let fz : SFits w64 c.saturating_add.result = search rules in
     let short : c.args.len < 2 ^ hbits w64 = omega arith in
     let few : nat_abs c.args.n ≤ 100000 = omega (arith, ints) in
-    let z : c.saturating-add.result ≡ saturate_to_bits 63 (c.args.a +ℤ pos c.args.len) = simp (to_z-of_z, to_z_pos) at c.saturating-add.ensures in
+    let z : c.saturating_add.result ≡ saturate_to_bits 63 (c.args.a +ℤ pos c.args.len) = simp (to_z-of_z, to_z_pos) at c.saturating_add.ensures in
     (simp to_z-of_z at c.clipped.ensures) ∙ ap (clip (nat_abs c.args.n)) z ∙ clip_saturated (nat_abs c.args.n) (c.args.a +ℤ pos c.args.len) few

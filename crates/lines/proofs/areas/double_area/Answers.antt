@@ -1,7 +1,7 @@
-use Rattle.std.proofs.Common.{◌≡◌, ℤ, pos, ◌+ℤ◌, ◌≤ℤ◌, ◌<ℤ◌, sym, ap, ◌∙◌, arith, w64, SFits, rules}
+use Rattle.std.proofs.Common.{pos, ◌+ℤ◌, ◌≤ℤ◌, ◌<ℤ◌, arith, w64, SFits, rules}
 use borrow.Author.Differences.{ints}
 use Rattle.std.proofs.lemmas.Int.{to_z-of_z}
-use Rattle.lines.specs.Lines.{line_no, ordinate_or_zero}
+use Rattle.lines.specs.Lines.{line_no}
 use Rattle.lines.proofs.UnderCells.{cell_on}
 use Rattle.lines.proofs.areas.double_area.Goals as goal
 

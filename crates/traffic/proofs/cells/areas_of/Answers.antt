@@ -17,7 +17,7 @@ overflow-add-sum g c =
     let fn : SFits w64 c.length-n.result = search rules in
     let line = line_no (g.F.Family.lines c.args.family.now) c.args.line in
     let m = mild _ (g.F.Family.limits c.args.family.now) c.args.line in
-    let i = simp (to_z-of_z, c.loop-k.sum_is) at c.loop-k.invariant in
+    let i = simp (to_z-of_z, c.loop-k.sum-is) at c.loop-k.invariant in
     let few : c.loop-k.k ≤ 100000 = omega (arith, ints) in
     let a = sum_to_small line m c.args.cells c.loop-k.k few in
     omega (arith, ints)
@@ -29,7 +29,7 @@ loop-k-preserved g c =
     let fr : SFits w64 c.part-of-sum.result = search rules in
     let line = line_no (g.F.Family.lines c.args.family.now) c.args.line in
     let m = mild _ (g.F.Family.limits c.args.family.now) c.args.line in
-    let i = simp (to_z-of_z, c.loop-k.sum_is) at c.loop-k.invariant in
+    let i = simp (to_z-of_z, c.loop-k.sum-is) at c.loop-k.invariant in
     let few : c.loop-k.k ≤ 100000 = omega (arith, ints) in
     let a = sum_to_small line m c.args.cells c.loop-k.k few in
     let r : c.part-of-sum.result ≡ cond (set_of line c.args.cells c.loop-k.k) (double_area line c.loop-k.k) (pos 0) =
@@ -37,7 +37,7 @@ loop-k-preserved g c =
     ∙ ap (λ (i : ℤ). cond (set_of (line_no (g.F.Family.lines c.args.family.now) i) c.args.cells c.loop-k.k) (double_area (line_no (g.F.Family.lines c.args.family.now) i) c.loop-k.k) (pos 0)) (to_z-of_z w32 c.args.line fl) in
     let e = sum_to_more line c.args.cells c.loop-k.k in
     let fs : SFits w64 (c.loop-k.sum +ℤ c.part-of-sum.result) = omega (arith, ints) in
-    simp (to_z-of_z, c.loop-k.sum_is) (omega (arith, ints))
+    simp (to_z-of_z, c.loop-k.sum-is) (omega (arith, ints))
 
 pub returns : goal.returns
 returns g c =
@@ -45,11 +45,11 @@ returns g c =
     let fn : SFits w64 c.length-n.result = search rules in
     let line = line_no (g.F.Family.lines c.args.family.now) c.args.line in
     let m = mild _ (g.F.Family.limits c.args.family.now) c.args.line in
-    let i = simp (to_z-of_z, c.loop-k.sum_is) at c.loop-k.invariant in
+    let i = simp (to_z-of_z, c.loop-k.sum-is) at c.loop-k.invariant in
     let n = simp to_z-of_z at c.length-n.ensures.value in
     let abs : nat_abs c.length-n.result ≡ line.len = ap nat_abs n in
     let k : c.loop-k.k ≡ line.len = omega (arith, ints) in
     let h = m.len_high in
     let a = sum_to_small line m c.args.cells line.len h in
     let e : c.loop-k.sum ≡ sum_to line c.args.cells line.len = i ∙ ap (sum_to line c.args.cells) k in
-    record { value = c.loop-k.sum_is ∙ e ∙ sum_to_is line c.args.cells line.len; small = omega (arith, ints) }
+    record { value = c.loop-k.sum-is ∙ e ∙ sum_to_is line c.args.cells line.len; small = omega (arith, ints) }

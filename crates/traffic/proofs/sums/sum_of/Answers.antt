@@ -21,8 +21,8 @@ pub returns : goal.returns
 returns g c =
     let fl = c.ranges.line in
     let line = line_no (g.F.Family.lines c.args.family.now) c.args.line in
-    let i : from_lanes line c.args.set.now.loads (listed c.args.shares.now) c.args.lanes.now ≡ c.loop-x.sum +ℤ from_lanes line c.args.set.now.loads (listed c.args.shares.now) _ = simp (to_z-of_z, c.loop-x.sum_is) at c.loop-x.invariant.0 in
+    let i : from_lanes line c.args.set.now.loads (listed c.args.shares.now) c.args.lanes.now ≡ c.loop-x.sum +ℤ from_lanes line c.args.set.now.loads (listed c.args.shares.now) _ = simp (to_z-of_z, c.loop-x.sum-is) at c.loop-x.invariant.0 in
     let e = from_lanes_end line c.args.set.now.loads (listed c.args.shares.now) c.args.lanes.now _ c.loop-x-test.false in
     let f = from_lanes_is line c.args.set.now.loads (listed c.args.shares.now) c.args.lanes.now in
     let s : c.loop-x.sum ≡ from_lanes line c.args.set.now.loads (listed c.args.shares.now) c.args.lanes.now = omega (arith, ints) in
-    c.loop-x.sum_is ∙ s ∙ f
+    c.loop-x.sum-is ∙ s ∙ f
