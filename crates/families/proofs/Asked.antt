@@ -1,11 +1,11 @@
 -- What is found of one head after the other, and what a check tells of all.
-use Rattle.std.proofs.Common.{◌≡◌, ℕ, suc, ◌+◌, ◌<◌, ◌≤◌, ◌⊎◌, List, [], ◌∷◌, length, get_or, take, drop, Some, None, Ok, Err, Result, sym, refl, ap, ◌∙◌, subst, inl, inr, ⊎_elim, add-one}
+use Rattle.std.proofs.Common.{◌≡◌, ℕ, suc, ◌+◌, ◌<◌, ◌≤◌, List, ◌∷◌, length, get_or, take, drop, Some, None, Ok, Err, Result, sym, refl, ap, ◌∙◌, subst, inl, inr, ⊎_elim, add-one}
 use Rattle.std.proofs.lemmas.List.{drop_more, drop_all, drop-drop}
-use Rattle.lines.specs.Asks.{Asks, none, ask, AllYes, FirstNo}
+use Rattle.lines.specs.Asks.{Asks, none, AllYes, FirstNo}
 use Rattle.lines.proofs.Asking.{no_first_no, one_first_no}
 use Rattle.families.specs.declared.questions.Question.{Question}
 use Rattle.families.specs.declared.questions.Refusal.{Refusal}
-use Rattle.families.specs.Drafts.{Draft, drafts, Found, asked_of, asked_from, Tells, Scaled, Sized, Bounded}
+use Rattle.families.specs.Drafts.{Draft, drafts, Found, asked_of, asked_from, Tells}
 use Rattle.families.specs.Own.{start}
 use Rattle.families.proofs.Starts.{start_more}
 

@@ -1,12 +1,12 @@
 -- What is known of each head where every question is answered yes, and of the line of any number.
-use Rattle.std.proofs.Common.{◌≡◌, ℕ, zero, suc, ◌<◌, ◌≤◌, List, [], ◌∷◌, length, get_or, take, drop, ℤ, pos, negsuc, Some, None, sym, refl, ap, ◌∙◌, subst, ⊎_elim, le_of_suc-le-suc, not-suc-le-zero, arith}
+use Rattle.std.proofs.Common.{◌≡◌, ℕ, zero, suc, List, [], ◌∷◌, length, get_or, take, drop, ℤ, pos, negsuc, None, sym, refl, ap, ◌∙◌, subst, ⊎_elim, le_of_suc-le-suc, not-suc-le-zero, arith}
 use borrow.Author.Differences.{ints}
 use Rattle.std.proofs.lemmas.List.{get_or_past}
 use Rattle.lines.specs.Lines.{Line, no_line, line_no}
 use Rattle.lines.specs.Asks.{AllYes}
 use Rattle.families.specs.Drafts.{Draft, drafts, lines_of, asked_from, questions, Found, Counted, Scaled, Sized, Bounded}
 use Rattle.families.specs.Own.{start, own, Each}
-use Rattle.families.specs.DraftLimits.{length_lines, own_cons, line_at}
+use Rattle.families.specs.DraftLimits.{own_cons, line_at}
 use Rattle.families.specs.Places.{Placed}
 use Rattle.families.proofs.Asked.{OwnOf}
 

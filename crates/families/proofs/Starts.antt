@@ -1,7 +1,6 @@
 -- Where the rows of a head begin and end among all rows.
-use Rattle.std.proofs.Common.{◌≡◌, ℕ, ◌+◌, ◌<◌, ◌≤◌, List, length, get_or, take, sum_by, sym, ap, ◌∙◌, arith, take_all}
+use Rattle.std.proofs.Common.{◌≡◌, ℕ, ◌+◌, ◌<◌, ◌≤◌, List, length, get_or, sum_by, sym, ap, ◌∙◌, arith, take_all}
 use Rattle.std.proofs.lemmas.List.Sums.{sum_by_more, sum_by-take-le}
-use Rattle.families.specs.Drafts.{Counted}
 use Rattle.families.specs.Own.{start}
 
 pub start_more : {T : Type 0} (taken : T → ℕ) (hs : List T) (k : ℕ) (h : T) → k < length hs → h ≡ get_or hs k h → start taken hs (k + 1) ≡ start taken hs k + taken h

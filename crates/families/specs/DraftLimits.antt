@@ -3,7 +3,7 @@ use Rattle.std.specs.Prelude.{◌≡◌, ℕ, zero, suc, ◌<◌, ◌≤◌, Lis
 use Rattle.std.proofs.Common.{sym, ap, ◌∙◌, subst, le_of_suc-le-suc, not-suc-le-zero, arith}
 use Rattle.std.proofs.lemmas.List.Sums.{sum_by-cons}
 use Rattle.std.proofs.lemmas.List.{drop-drop}
-use Rattle.lines.specs.Lines.{Line, no_line, Fair, Limits}
+use Rattle.lines.specs.Lines.{no_line, Fair, Limits}
 use Rattle.families.specs.Drafts.{Draft, drafts, lines_of, Counted, Scaled, Sized, Bounded}
 use Rattle.families.specs.Own.{start, own, Each}
 

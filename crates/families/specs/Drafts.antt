@@ -1,5 +1,5 @@
 -- What heads draft from rows, and the questions that are asked before the drafts are influence lines.
-use Rattle.std.specs.Prelude.{◌≡◌, ℕ, suc, ◌<◌, ◌≤◌, List, [], ◌∷◌, map, length, take, drop, ℤ, pos, negsuc, Some, None, Ok, Err, sum_by, Option, Result, unsigned_abs}
+use Rattle.std.specs.Prelude.{◌≡◌, ℕ, suc, ◌≤◌, List, [], ◌∷◌, map, length, take, drop, ℤ, pos, negsuc, Some, None, Ok, Err, sum_by, Option, Result, unsigned_abs}
 use Rattle.lines.specs.Lines.{Line}
 use Rattle.lines.specs.Asks.{Asks, none, ask, AllYes, FirstNo}
 use Rattle.families.specs.declared.questions.Question.{Question}

@@ -1,7 +1,6 @@
 -- What a carriageway is asked.
 use Rattle.std.specs.Prelude.{◌≡◌, ℕ, ◌+◌, Bool, cond, ℤ, pos, ◌+ℤ◌, ◌≤ℤ◌, Ok, Err, Result}
 use Rattle.lines.specs.Asks.{Asks, none, ask, AllYes, FirstNo}
-use Rattle.loads.specs.declared.decks.Deck.{Deck}
 use Rattle.loads.specs.declared.carriageways.Carriageway.{Carriageway}
 use Rattle.loads.specs.declared.carriageways.WidthQuestion.{WidthQuestion}
 use Rattle.loads.specs.declared.carriageways.WidthQuestion.TheVariants.{Widest, Narrowest}

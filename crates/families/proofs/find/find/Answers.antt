@@ -1,4 +1,4 @@
-use Rattle.std.proofs.Common.{◌≡◌, sym, ap, ◌∙◌, arith, rules}
+use Rattle.std.proofs.Common.{ap, ◌∙◌, arith}
 use Rattle.std.proofs.lemmas.Int.{to_z-of_z}
 use Rattle.lines.specs.Lines.{line_no}
 use Rattle.families.specs.Drafts.{drafts, lines_of}
@@ -8,8 +8,8 @@ use Rattle.families.proofs.Asked.{OwnOf}
 use Rattle.families.proofs.Finding.{found_of, line_of, unplaced}
 use Rattle.families.proofs.find.find.Goals as goal
 
-pub own-rows-requires : goal.own-rows-requires
-own-rows-requires g c =
+pub own_rows-requires : goal.own_rows-requires
+own_rows-requires g c =
     let p = start_high g.T.Head.taken c.args.heads.now c.in-Some.i c.index-heads-i.result c.in-Some.ensures.1 c.index-heads-i.is in
     let w = c.requires.0.1 in
     omega arith
@@ -21,7 +21,7 @@ returns-in-Some g c =
     let draft = g.T.Head.draft in
     let hs = c.args.heads.now in
     let rs = c.args.rows.now in
-    let o : OwnOf taken hs rs c.in-Some.i c.index-heads-i.result c.own-rows.result.now = record { at = c.start-of.result; there = c.in-Some.ensures.1; head = c.index-heads-i.is; begins = c.start-of.ensures; rows = c.own-rows.ensures } in
+    let o : OwnOf taken hs rs c.in-Some.i c.index-heads-i.result c.own_rows.result.now = record { at = c.start_of.result; there = c.in-Some.ensures.1; head = c.index-heads-i.is; begins = c.start_of.ensures; rows = c.own_rows.ensures } in
     let z = simp to_z-of_z at c.in-Some.ensures.0 in
     (found_of taken draft hs rs _ _ _ o c.requires, ap (line_no (lines_of (drafts taken draft hs rs))) z ∙ line_of taken draft hs rs _ _ _ o)
 

@@ -1,12 +1,12 @@
-use Rattle.std.proofs.Common.{◌*◌, ◌^◌, ◌<◌, ◌≤◌, pos, ◌*ℤ◌, nat_abs, arith, w64, SFits}
+use Rattle.std.proofs.Common.{◌^◌, ◌<◌, pos, ◌*ℤ◌, arith, w64, SFits}
 use mir.Val.{hbits}
 use borrow.Author.Differences.{ints}
 use Rattle.std.proofs.lemmas.Int.{to_z-of_z, to_z_pos}
 use Rattle.lines.proofs.Products.{product_small}
 use Rattle.families.proofs.ordinates.times.Goals as goal
 
-pub overflow-mul-result : goal.overflow-mul-result
-overflow-mul-result c =
+pub overflow_mul-result : goal.overflow_mul-result
+overflow_mul-result c =
     let fy = c.ranges.y in
     let fz : SFits w64 c.args.y = omega (arith, ints) in
     let h : c.args.a < 2 ^ hbits w64 = omega arith in

@@ -8,7 +8,7 @@ returns c =
     let fd = c.ranges.dead in
     let fq = c.ranges.q in
     let fb = c.ranges.bound in
-    let x = simp to_z-of_z at c.is-sum-above-first.ensures in
-    let y = simp to_z-of_z at c.is-sum-above-second.ensures in
-    let z = simp to_z-of_z at c.is-sum-above-third.ensures in
-    Decides-or c.is-sum-above-first.result _ x (Decides-or c.is-sum-above-second.result c.is-sum-above-third.result y z)
+    let x = simp to_z-of_z at c.is_sum_above-first.ensures in
+    let y = simp to_z-of_z at c.is_sum_above-second.ensures in
+    let z = simp to_z-of_z at c.is_sum_above-third.ensures in
+    Decides-or c.is_sum_above-first.result _ x (Decides-or c.is_sum_above-second.result c.is_sum_above-third.result y z)

@@ -12,5 +12,5 @@ returns-in-Some c =
     let fk : SFits w32 c.in-Some.capacity = search rules in
     let fr : SFits w128 c.units.result = search rules in
     let e = simp to_z-of_z at c.units.ensures.value in
-    let d = simp to_z-of_z at c.is-above.ensures in
-    above_given c.is-above.result c.args.figures.now c.args.u c.args.q c.units.result c.in-Some.capacity c.in-Some.is e d
+    let d = simp to_z-of_z at c.is_above.ensures in
+    above_given c.is_above.result c.args.figures.now c.args.u c.args.q c.units.result c.in-Some.capacity c.in-Some.is e d

@@ -8,7 +8,7 @@ returns c =
     let fd = c.ranges.dead in
     let fq = c.ranges.q in
     let fb = c.ranges.bound in
-    let x = simp to_z-of_z at c.is-sum-below-first.ensures in
-    let y = simp to_z-of_z at c.is-sum-below-second.ensures in
-    let z = simp to_z-of_z at c.is-sum-below-third.ensures in
-    Decides-or c.is-sum-below-first.result _ x (Decides-or c.is-sum-below-second.result c.is-sum-below-third.result y z)
+    let x = simp to_z-of_z at c.is_sum_below-first.ensures in
+    let y = simp to_z-of_z at c.is_sum_below-second.ensures in
+    let z = simp to_z-of_z at c.is_sum_below-third.ensures in
+    Decides-or c.is_sum_below-first.result _ x (Decides-or c.is_sum_below-second.result c.is_sum_below-third.result y z)

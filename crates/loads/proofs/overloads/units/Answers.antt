@@ -1,12 +1,12 @@
-use Rattle.std.proofs.Common.{◌≡◌, ◌^◌, ◌≤◌, ℤ, ◌*ℤ◌, nat_abs, sym, subst, le_trans, arith, lit≤, w64, SFits, rules}
+use Rattle.std.proofs.Common.{◌^◌, ◌≤◌, ℤ, ◌*ℤ◌, nat_abs, sym, subst, le_trans, arith, lit≤, w64, SFits, rules}
 use mir.Syntax.{w128}
 use borrow.Author.Differences.{ints}
 use Rattle.std.proofs.lemmas.Int.{to_z-of_z}
 use Rattle.lines.proofs.Products.{product_small}
 use Rattle.loads.proofs.overloads.units.Goals as goal
 
-pub overflow-mul-factor : goal.overflow-mul-factor
-overflow-mul-factor c =
+pub overflow_mul-factor : goal.overflow_mul-factor
+overflow_mul-factor c =
     let ff = c.ranges.factor in
     let fu = c.ranges.u in
     let p = product_small c.args.factor c.args.u 23 22400000000 c.requires.0 c.requires.1 in

@@ -1,12 +1,12 @@
-use Rattle.std.proofs.Common.{◌*◌, ◌^◌, ◌≤◌, ◌*ℤ◌, nat_abs, arith, SFits}
+use Rattle.std.proofs.Common.{◌^◌, ◌*ℤ◌, arith, SFits}
 use mir.Syntax.{w128}
 use borrow.Author.Differences.{ints}
 use Rattle.std.proofs.lemmas.Int.{to_z-of_z}
 use Rattle.lines.proofs.Products.{product_small}
 use Rattle.loads.proofs.overloads.wide.Goals as goal
 
-pub overflow-mul-result : goal.overflow-mul-result
-overflow-mul-result c =
+pub overflow_mul-result : goal.overflow_mul-result
+overflow_mul-result c =
     let fx = c.ranges.x in
     let fy = c.ranges.y in
     let gx : SFits w128 c.args.x = omega (arith, ints) in

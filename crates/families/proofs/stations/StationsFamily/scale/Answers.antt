@@ -1,5 +1,5 @@
 use Rattle.families.proofs.Kept.{stations_yes}
 use Rattle.families.proofs.stations.StationsFamily.scale.Goals as goal
 
-pub scale-of-requires : goal.scale-of-requires
-scale-of-requires c = stations_yes c.args.self.now
+pub scale_of-requires : goal.scale_of-requires
+scale_of-requires c = stations_yes c.args.self.now

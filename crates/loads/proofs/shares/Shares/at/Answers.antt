@@ -1,4 +1,4 @@
-use Rattle.std.proofs.Common.{◌≡◌, ℕ, ◌+◌, ◌≤◌, get_or, ℤ, pos, nat_abs, sym, ap, ◌∙◌, subst, inl, inr, arith, w32, w64, SFits, to_z, of_z, rules}
+use Rattle.std.proofs.Common.{◌≡◌, ℕ, ◌+◌, ◌≤◌, get_or, ℤ, pos, nat_abs, sym, ap, ◌∙◌, subst, inl, inr, arith, w32, w64, SFits, to_z, of_z}
 use borrow.Author.Differences.{ints}
 use Rattle.std.proofs.lemmas.Int.{to_z-of_z}
 use Rattle.loads.proofs.Centres.{share_past, share_at}
