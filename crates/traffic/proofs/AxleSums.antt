@@ -1,5 +1,5 @@
 -- The effect of a group of axles, from its axles.
-use Rattle.std.proofs.Common.{◌≡◌, ℕ, ◌*◌, [], ◌∷◌, ℤ, pos, ◌+ℤ◌, ◌*ℤ◌, ap, ◌∙◌, arith}
+use Rattle.std.proofs.Common.{◌≡◌, ℕ, ℤ, pos, ◌+ℤ◌, ◌*ℤ◌, ap, ◌∙◌, arith}
 use borrow.Author.Differences.{ints}
 use lib.IntN.{zero-*ℤ}
 use Rattle.lines.specs.Lines.{Line, ordinate_or_zero}

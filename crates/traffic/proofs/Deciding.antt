@@ -1,5 +1,5 @@
 -- The tests on a record decide what they ask.
-use Rattle.std.proofs.Common.{◌≡◌, ℕ, ◌+◌, ◌<◌, ◌≤◌, Bool, true, false, cond, not, ◌&&◌, leb, List, [], ◌∷◌, map, length, take, drop, ℤ, pos, ◌+ℤ◌, ◌-ℤ◌, ◌≤ℤ◌, Decides, sym, refl, ap, ◌∙◌, subst, arith}
+use Rattle.std.proofs.Common.{◌≡◌, ℕ, ◌+◌, ◌≤◌, Bool, true, false, cond, leb, List, [], ◌∷◌, map, take, drop, ℤ, pos, ◌+ℤ◌, ◌-ℤ◌, ◌≤ℤ◌, Decides, sym, refl, ap, ◌∙◌, subst, arith}
 use borrow.Author.Differences.{ints}
 use lib.Signed.{le_z}
 use Rattle.std.specs.List.{AllByRecursion as All}
@@ -16,9 +16,9 @@ use Rattle.traffic.specs.declared.records.LaneRecord.{LaneRecord}
 use Rattle.traffic.specs.declared.records.Record.{Record}
 use Rattle.lines.specs.Lines.{Line}
 use Rattle.lines.specs.Cells.{block}
-use Rattle.loads.specs.Decks.{Lane, heavy, half, left_side, right_side, Within, Before, Apart, heavies, Start, OnBlock, Placed, Legal}
-use Rattle.traffic.specs.Records.{of_sign, beside_train, load_of, lane_of, arrangement, Unused, blank, InForm, Accepted}
-use Rattle.traffic.specs.Tests.{heavy_code, left_of, right_of, within_test, start_test, on_block_test, placed_test, zero_test, no_sign_test, light_test, unused_test, used_right_test, zeros_test, blank_test, all_test, before_test, apart_test, heavy_count, lanes_test, accepted_test}
+use Rattle.loads.specs.Decks.{Lane, heavy, half, left_side, right_side, Within, Before, Apart, heavies, Start, OnBlock, Placed}
+use Rattle.traffic.specs.Records.{beside_train, load_of, lane_of, Unused, blank, Accepted}
+use Rattle.traffic.specs.Tests.{heavy_code, left_of, right_of, within_test, start_test, on_block_test, placed_test, zero_test, no_sign_test, light_test, unused_test, used_right_test, blank_test, all_test, before_test, apart_test, heavy_count, accepted_test}
 
 decides_le : (a b : ℤ) → Decides (le_z a b) (a ≤ℤ b)
 decides_le a b = (λ e. grind (arith, ints), λ h. grind (arith, ints))

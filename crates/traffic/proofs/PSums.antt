@@ -1,5 +1,5 @@
 -- The double areas under the cells that p of a record stands on.
-use Rattle.std.proofs.Common.{◌≡◌, ℕ, ◌+◌, ◌≤◌, Bool, cond, ℤ, pos, ◌+ℤ◌, nat_abs, refl, ap, ◌∙◌}
+use Rattle.std.proofs.Common.{◌≡◌, ℕ, ◌+◌, ◌≤◌, cond, ℤ, pos, ◌+ℤ◌, nat_abs, refl}
 use Rattle.lines.specs.Lines.{Line}
 use Rattle.lines.specs.Cells.{double_area, under}
 use Rattle.lines.proofs.Bounds.{Mild}

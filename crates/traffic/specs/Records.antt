@@ -1,7 +1,6 @@
 -- The record of an arrangement: its form, and which arrangement it stands for.
-use Rattle.std.specs.Prelude.{◌≡◌, ℕ, ◌≤◌, Bool, true, false, cond, not, ◌&&◌, List, [], ◌∷◌, map, take, drop, ℤ, pos, negsuc, Option, int_lt}
+use Rattle.std.specs.Prelude.{◌≡◌, ℕ, ◌≤◌, Bool, false, not, ◌&&◌, List, map, take, drop, ℤ, pos, negsuc, Option, int_lt}
 use Rattle.std.specs.List.{AllByRecursion as All}
-use Rattle.loads.specs.declared.load_sets.Group.{Group}
 use Rattle.loads.specs.declared.load_sets.Group.TheVariants.{Single, Bogie12, Bogie21, Triple211, Triple121, Triple112}
 use Rattle.loads.specs.declared.decks.Deck.{Deck}
 use Rattle.loads.specs.declared.load_sets.Loads.{Loads}

@@ -15,8 +15,8 @@ cell-requires g c =
     record {
       near = omega arith;
       next = c.loop-s.invariant.0 _ _ (omega arith) (omega arith);
-      past-light = c.loop-s.invariant.0 _ _ (omega arith) (omega arith);
-      past-heavy = λ some. c.requires.fewer some _ _ (omega arith) (omega arith);
+      past_light = c.loop-s.invariant.0 _ _ (omega arith) (omega arith);
+      past_heavy = λ some. c.requires.fewer some _ _ (omega arith) (omega arith);
     }
 
 pub loop-s-preserved : goal.loop-s-preserved

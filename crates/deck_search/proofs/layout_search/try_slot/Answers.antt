@@ -12,6 +12,6 @@ returns g c =
     let w = worth_small c.args.worths.now c.args.slot in
     record {
       sum = offered_sum g.S.Sense.beyond _ _ _ _ _ k (omega (arith, ints)) c.offer.ensures.sum;
-      place = offered_place g.S.Sense.beyond _ _ _ _ _ _ _ _ k (omega (arith, ints)) c.led-by.ensures.slots c.offer.ensures.place;
+      place = offered_place g.S.Sense.beyond _ _ _ _ _ _ _ _ k (omega (arith, ints)) c.led_by.ensures.slots c.offer.ensures.place;
       few = offered_few g.S.Sense.beyond _ _ _ _ _ (omega arith) c.requires.few c.offer.ensures.place;
     }

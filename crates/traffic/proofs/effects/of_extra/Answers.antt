@@ -1,7 +1,6 @@
-use Rattle.std.proofs.Common.{◌≡◌, ◌*◌, ◌≤◌, ℤ, pos, ◌*ℤ◌, nat_abs, sym, ap, ◌∙◌, mul-le-mul, arith, w32, w64, SFits, rules}
+use Rattle.std.proofs.Common.{◌*◌, ◌≤◌, ℤ, pos, ◌*ℤ◌, ap, ◌∙◌, mul-le-mul, arith, w64, SFits, rules}
 use borrow.Author.Differences.{ints}
 use Rattle.std.proofs.lemmas.Int.{to_z-of_z}
-use Rattle.lines.specs.Lines.{line_no, ordinate_or_zero}
 use Rattle.traffic.proofs.effects.of_extra.Goals as goal
 
 pub times-requires : goal.times-requires

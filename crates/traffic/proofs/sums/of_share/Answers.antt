@@ -4,8 +4,8 @@ use Rattle.std.proofs.lemmas.Int.{to_z-of_z}
 use Rattle.lines.proofs.Products.{product_small}
 use Rattle.traffic.proofs.sums.of_share.Goals as goal
 
-pub overflow-mul-result : goal.overflow-mul-result
-overflow-mul-result c =
+pub overflow_mul-result : goal.overflow_mul-result
+overflow_mul-result c =
     let fp = c.ranges.percent in
     let fe = c.ranges.effect in
     let p = product_small c.args.percent c.args.effect 100 330000000000000 c.requires.part c.requires.small in

@@ -1,4 +1,4 @@
-use Rattle.std.proofs.Common.{◌≡◌, ℕ, ◌≤◌, ℤ, pos, ◌+ℤ◌, nat_abs, sym, ap, ◌∙◌, arith, w32, w64, SFits, to_z, of_z, rules}
+use Rattle.std.proofs.Common.{◌≡◌, ◌+ℤ◌, ◌∙◌, arith, w32, to_z, of_z}
 use borrow.Author.Differences.{ints}
 use Rattle.std.proofs.lemmas.Int.{to_z-of_z}
 use Rattle.lines.specs.Lines.{line_no}
@@ -13,8 +13,8 @@ loop-x-preserved g c =
     let i = c.loop-x.invariant.0 in
     let b = c.loop-x.invariant.1 in
     let few = c.requires in
-    let h = c.shared-effect-sum.ensures.small in
-    let e = from_lanes_more line c.args.set.now.loads (listed c.args.shares.now) c.args.lanes.now c.loop-x.x-index blank _ c.loop-x-test.true c.shared-effect-sum.ensures.value in
+    let h = c.shared_effect-sum.ensures.small in
+    let e = from_lanes_more line c.args.set.now.loads (listed c.args.shares.now) c.args.lanes.now c.loop-x.x-index blank _ c.loop-x-test.true c.shared_effect-sum.ensures.value in
     (omega (arith, ints), omega (arith, ints))
 
 pub returns : goal.returns
