@@ -13,11 +13,11 @@ returns c =
     let small : d < 2 ^ hbits w64 = omega arith in
     let fb : SFits w64 (c.args.a +ℤ pos d) = omega (arith, ints) in
     let fc : SFits w64 (c.args.a +ℤ pos d +ℤ pos d) = omega (arith, ints) in
-    let fy : SFits w64 c.ordinate-at-y.result = search rules in
-    let fu : SFits w64 c.ordinate-at-u.result = search rules in
-    let fv : SFits w64 c.ordinate-at-v.result = search rules in
-    let fr : SFits w64 c.weighed-three.result = search rules in
-    let y = simp to_z-of_z at c.ordinate-at-y.ensures.value in
-    let u = simp (to_z-of_z, to_z_pos) at c.ordinate-at-u.ensures.value in
-    let v = simp (to_z-of_z, to_z_pos) at c.ordinate-at-v.ensures.value in
-    simp to_z-of_z (simp to_z-of_z at c.weighed-three.ensures ∙ three_same c.args.weights _ _ _ _ _ _ y u v)
+    let fy : SFits w64 c.ordinate_at-y.result = search rules in
+    let fu : SFits w64 c.ordinate_at-u.result = search rules in
+    let fv : SFits w64 c.ordinate_at-v.result = search rules in
+    let fr : SFits w64 c.weighed_three.result = search rules in
+    let y = simp to_z-of_z at c.ordinate_at-y.ensures.value in
+    let u = simp (to_z-of_z, to_z_pos) at c.ordinate_at-u.ensures.value in
+    let v = simp (to_z-of_z, to_z_pos) at c.ordinate_at-v.ensures.value in
+    simp to_z-of_z (simp to_z-of_z at c.weighed_three.ensures ∙ three_same c.args.weights _ _ _ _ _ _ y u v)

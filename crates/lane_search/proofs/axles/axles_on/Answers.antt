@@ -17,5 +17,5 @@ returns c =
     let y : to_z w64 (of_z w64 (to_z w32 (of_z w32 (get_or ys a (pos 0))))) ≡ get_or ys a (pos 0) = omega (arith, ints) in
     let u : to_z w64 (of_z w64 (to_z w32 (of_z w32 (get_or ys (a + d) (pos 0))))) ≡ get_or ys (a + d) (pos 0) = omega (arith, ints) in
     let v : to_z w64 (of_z w64 (to_z w32 (of_z w32 (get_or ys (a + d + d) (pos 0))))) ≡ get_or ys (a + d + d) (pos 0) = omega (arith, ints) in
-    let fr : SFits w64 c.weighed-three.result = search rules in
-    simp to_z-of_z (c.weighed-three.ensures ∙ three_same c.args.weights _ _ _ _ _ _ (y ∙ sym (y_at ys a)) (u ∙ sym (y_at ys (a + d))) (v ∙ sym (y_at ys (a + d + d))))
+    let fr : SFits w64 c.weighed_three.result = search rules in
+    simp to_z-of_z (c.weighed_three.ensures ∙ three_same c.args.weights _ _ _ _ _ _ (y ∙ sym (y_at ys a)) (u ∙ sym (y_at ys (a + d))) (v ∙ sym (y_at ys (a + d + d))))

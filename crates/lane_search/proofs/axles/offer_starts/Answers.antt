@@ -7,9 +7,9 @@ use Rattle.lane_search.proofs.axles.offer_starts.Goals as goal
 
 pub loop-start-preserved : goal.loop-start-preserved
 loop-start-preserved g c =
-    let f : SFits w64 c.axles-at.result = search rules in (
+    let f : SFits w64 c.axles_at.result = search rules in (
       up_turn g.S.Sense.order (at_three (sampled c.args.ys.now) c.args.spacing c.args.weights) (negsuc 15999) _ _ _ _ _ _ _
-          c.loop-start.invariant.0 (omega (arith, ints)) (omega (arith, ints)) c.axles-at.ensures
+          c.loop-start.invariant.0 (omega (arith, ints)) (omega (arith, ints)) c.axles_at.ensures
           (simp to_z-of_z at c.offer.ensures.sum) (simp to_z-of_z at c.offer.ensures.place),
       omega (arith, ints),
       omega (arith, ints),

@@ -1,4 +1,4 @@
-use Rattle.std.proofs.Common.{◌≡◌, ◌≤◌, ℤ, pos, ◌*ℤ◌, nat_abs, le_trans, arith, lit≤, w64, SFits, to_z, of_z}
+use Rattle.std.proofs.Common.{◌≡◌, ◌≤◌, pos, ◌*ℤ◌, nat_abs, le_trans, arith, lit≤, w64, SFits, to_z, of_z}
 use Rattle.std.proofs.lemmas.Int.{ints, to_z-of_z}
 use Rattle.lines.proofs.Products.{product_small}
 use Rattle.lane_search.proofs.axles.weighed.Goals as goal
@@ -13,8 +13,8 @@ product c =
 small : (c : goal.Start) → nat_abs (pos c.args.weight *ℤ c.args.y) ≤ 200000000
 small c = le_trans (product_small (pos c.args.weight) c.args.y 200 1000000 c.requires.light c.requires.small) (lit≤ tt)
 
-pub overflow-mul-result : goal.overflow-mul-result
-overflow-mul-result c = let s = small c in rw (product c) (omega (arith, ints))
+pub overflow_mul-result : goal.overflow_mul-result
+overflow_mul-result c = let s = small c in rw (product c) (omega (arith, ints))
 
 pub returns : goal.returns
 returns c =

@@ -12,8 +12,8 @@ all c =
     let s = sum_small c.weighed-2.result c.weighed-3.result _ _ c.weighed-2.ensures.small c.weighed-3.ensures.small in
     fits_by _ _ (sum_small c.weighed.result (c.weighed-2.result +ℤ c.weighed-3.result) _ _ c.weighed.ensures.small s) (lit≤ tt)
 
-pub overflow-add-result-2 : goal.overflow-add-result-2
-overflow-add-result-2 c =
+pub overflow_add-result-2 : goal.overflow_add-result-2
+overflow_add-result-2 c =
     let fx : SFits w64 c.weighed.result = search rules in
     let fy : SFits w64 c.weighed-2.result = search rules in
     let fz : SFits w64 c.weighed-3.result = search rules in

@@ -1,4 +1,4 @@
-use Rattle.std.proofs.Common.{length, get_or, ℤ, pos, negsuc, ◌+ℤ◌, ◌*ℤ◌, ap, ◌∙◌, arith, w64, SFits, rules}
+use Rattle.std.proofs.Common.{get_or, ℤ, pos, negsuc, ◌+ℤ◌, ◌*ℤ◌, ap, ◌∙◌, arith, w64, SFits, rules}
 use Rattle.std.proofs.lemmas.Int.{ints, to_z-of_z}
 use Rattle.lane_search.specs.Samples.{sampled}
 use Rattle.lane_search.proofs.Rows.{peak_small}
@@ -7,32 +7,32 @@ use Rattle.lane_search.proofs.Pairs.{scan_first, scan_turn}
 use Rattle.lane_search.proofs.PastLine.{begun_past}
 use Rattle.lane_search.proofs.blocks.block_start.Goals as goal
 
-pub laden-at-requires : goal.laden-at-requires
-laden-at-requires g c =
+pub laden_at-requires : goal.laden_at-requires
+laden_at-requires g c =
     let fall = c.ranges.all in
-    let h : SFits w64 (get_or c.best-tops.new.tops 0 (pos 0)) = search rules in
+    let h : SFits w64 (get_or c.best_tops.new.tops 0 (pos 0)) = search rules in
     record {
       sized = simp to_z-of_z c.requires.sized;
       moderate = c.requires.moderate;
       near = record { low = omega (arith, ints); high = omega (arith, ints) };
-      small = simp to_z-of_z (peak_small _ _ _ _ _ (tame_mild _ c.requires.tame) (c.best-tops.ensures 0 (omega arith)));
+      small = simp to_z-of_z (peak_small _ _ _ _ _ (tame_mild _ c.requires.tame) (c.best_tops.ensures 0 (omega arith)));
     }
 
 pub loop-start-init : goal.loop-start-init
 loop-start-init g c =
     let fall = c.ranges.all in
-    let f : SFits w64 c.laden-at.result = search rules in
-    let h : SFits w64 (get_or c.best-tops.new.tops 0 (pos 0)) = search rules in
-    let y = get_or c.best-tops.new.tops 0 (pos 0) in (
+    let f : SFits w64 c.laden_at.result = search rules in
+    let h : SFits w64 (get_or c.best_tops.new.tops 0 (pos 0)) = search rules in
+    let y = get_or c.best_tops.new.tops 0 (pos 0) in (
       scan_first g.S.Sense.order (sampled c.args.ys.now) c.args.load _ 0 _ _
-          (omega arith) (omega arith) c.best-tops.ensures
-          (simp to_z-of_z at c.new-worst.ensures.sum ∙ simp to_z-of_z at c.laden-at.ensures ∙ ap (λ (r : ℤ). pos c.args.load.extra *ℤ y +ℤ r) (c.requires.rest (negsuc 15999)))
+          (omega arith) (omega arith) c.best_tops.ensures
+          (simp to_z-of_z at c.new-worst.ensures.sum ∙ simp to_z-of_z at c.laden_at.ensures ∙ ap (λ (r : ℤ). pos c.args.load.extra *ℤ y +ℤ r) (c.requires.rest (negsuc 15999)))
           c.new-worst.ensures.place,
       omega (arith, ints),
     )
 
-pub row-at-at-requires : goal.row-at-at-requires
-row-at-at-requires g c =
+pub row_at-at-requires : goal.row_at-at-requires
+row_at-at-requires g c =
     let fewer = c.requires.moderate.length in
     record {
       tame = c.requires.tame;
@@ -42,30 +42,30 @@ row-at-at-requires g c =
       full = λ _. c.loop-start.invariant.0.5;
     }
 
-pub laden-at-requires-in-loop-start : goal.laden-at-requires-in-loop-start
-laden-at-requires-in-loop-start g c =
+pub laden_at-requires-in-loop-start : goal.laden_at-requires-in-loop-start
+laden_at-requires-in-loop-start g c =
     let fall = c.ranges.all in
-    let h : SFits w64 (get_or c.row-at-at.new.tops c.row-at-at.result (pos 0)) = search rules in
+    let h : SFits w64 (get_or c.row_at-at.new.tops c.row_at-at.result (pos 0)) = search rules in
     record {
       sized = simp to_z-of_z c.requires.sized;
       moderate = c.requires.moderate;
       near = record { low = omega (arith, ints); high = omega (arith, ints) };
-      small = simp to_z-of_z (peak_small _ _ _ _ _ (tame_mild _ c.requires.tame) (c.row-at-at.ensures.full c.row-at-at.result c.row-at-at.ensures.within));
+      small = simp to_z-of_z (peak_small _ _ _ _ _ (tame_mild _ c.requires.tame) (c.row_at-at.ensures.full c.row_at-at.result c.row_at-at.ensures.within));
     }
 
-pub overflow-step-start : goal.overflow-step-start
-overflow-step-start g c = omega (arith, ints)
+pub overflow_step-start : goal.overflow_step-start
+overflow_step-start g c = omega (arith, ints)
 
 pub loop-start-preserved : goal.loop-start-preserved
 loop-start-preserved g c =
     let fall = c.ranges.all in
-    let f : SFits w64 c.laden-at-in-loop-start.result = search rules in
-    let h : SFits w64 (get_or c.row-at-at.new.tops c.row-at-at.result (pos 0)) = search rules in
-    let y = get_or c.row-at-at.new.tops c.row-at-at.result (pos 0) in (
+    let f : SFits w64 c.laden_at-in-loop-start.result = search rules in
+    let h : SFits w64 (get_or c.row_at-at.new.tops c.row_at-at.result (pos 0)) = search rules in
+    let y = get_or c.row_at-at.new.tops c.row_at-at.result (pos 0) in (
       scan_turn g.S.Sense.order (sampled c.args.ys.now) c.args.load _ _ _ _ _ _ _ _ _ _ _
           c.loop-start.invariant.0 (omega (arith, ints)) (omega (arith, ints))
-          c.row-at-at.ensures.within (omega arith) c.row-at-at.ensures.full
-          (simp to_z-of_z at c.laden-at-in-loop-start.ensures ∙ ap (λ (r : ℤ). pos c.args.load.extra *ℤ y +ℤ r) (c.requires.rest _)) (simp to_z-of_z at c.offer.ensures.sum) (simp to_z-of_z at c.offer.ensures.place),
+          c.row_at-at.ensures.within (omega arith) c.row_at-at.ensures.full
+          (simp to_z-of_z at c.laden_at-in-loop-start.ensures ∙ ap (λ (r : ℤ). pos c.args.load.extra *ℤ y +ℤ r) (c.requires.rest _)) (simp to_z-of_z at c.offer.ensures.sum) (simp to_z-of_z at c.offer.ensures.place),
       omega (arith, ints),
     )
 

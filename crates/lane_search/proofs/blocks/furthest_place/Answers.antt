@@ -8,8 +8,8 @@ use Rattle.lane_search.proofs.blocks.furthest_place.Goals as goal
 pub loop-z-init : goal.loop-z-init
 loop-z-init g c =
     let ff = c.ranges.from in
-    let fr : SFits w64 c.ordinate-at.result = search rules in (
-      simp to_z-of_z (up_first g.S.Sense.order (ordinate_or_zero (sampled c.args.ys.now)) c.args.from _ _ _ (omega (arith, ints)) (simp to_z-of_z at c.new-best.ensures.place) (simp to_z-of_z at c.new-best.ensures.sum ∙ simp to_z-of_z at c.ordinate-at.ensures.value)),
+    let fr : SFits w64 c.ordinate_at.result = search rules in (
+      simp to_z-of_z (up_first g.S.Sense.order (ordinate_or_zero (sampled c.args.ys.now)) c.args.from _ _ _ (omega (arith, ints)) (simp to_z-of_z at c.new-best.ensures.place) (simp to_z-of_z at c.new-best.ensures.sum ∙ simp to_z-of_z at c.ordinate_at.ensures.value)),
       omega (arith, ints),
       omega (arith, ints),
     )
@@ -17,9 +17,9 @@ loop-z-init g c =
 pub loop-z-preserved : goal.loop-z-preserved
 loop-z-preserved g c =
     let ff = c.ranges.from in
-    let fr : SFits w64 c.ordinate-at-in-loop-z.result = search rules in
+    let fr : SFits w64 c.ordinate_at-in-loop-z.result = search rules in
     let i = c.loop-z.invariant in (
-      up_turn g.S.Sense.order (ordinate_or_zero (sampled c.args.ys.now)) _ _ _ _ _ _ _ _ i.0 (omega (arith, ints)) (omega (arith, ints)) c.ordinate-at-in-loop-z.ensures.value (simp to_z-of_z at c.offer.ensures.sum) (simp to_z-of_z at c.offer.ensures.place),
+      up_turn g.S.Sense.order (ordinate_or_zero (sampled c.args.ys.now)) _ _ _ _ _ _ _ _ i.0 (omega (arith, ints)) (omega (arith, ints)) c.ordinate_at-in-loop-z.ensures.value (simp to_z-of_z at c.offer.ensures.sum) (simp to_z-of_z at c.offer.ensures.place),
       omega (arith, ints),
       omega (arith, ints),
     )

@@ -8,5 +8,5 @@ loop-k-preserved c =
     let k = c.loop-k.k in
     let fx : SFits w64 (get_or c.args.areas.now c.loop-k.k (pos 0)) = search rules in
     let fg : SFits w64 (get_or c.args.helps.now c.loop-k.k (pos 0)) = search rules in
-    let fr : SFits w64 c.weighed-sum.result = search rules in
-    simp to_z-of_z (weigh_turn c.args.load _ _ c.loop-k.sums k c.weighed-sum.result c.loop-k.invariant (omega arith) (simp to_z-of_z at c.weighed-sum.ensures))
+    let fr : SFits w64 c.weighed_sum.result = search rules in
+    simp to_z-of_z (weigh_turn c.args.load _ _ c.loop-k.sums k c.weighed_sum.result c.loop-k.invariant (omega arith) (simp to_z-of_z at c.weighed_sum.ensures))

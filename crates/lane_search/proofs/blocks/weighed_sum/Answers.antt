@@ -1,4 +1,4 @@
-use Rattle.std.proofs.Common.{◌≤◌, ◌-ℤ◌, mul-le-mul, arith, lit≤, w64, SFits, rules}
+use Rattle.std.proofs.Common.{◌-ℤ◌, mul-le-mul, arith, lit≤, w64, SFits, rules}
 use Rattle.std.proofs.lemmas.Int.{to_z-of_z}
 use Rattle.loads.proofs.Sizes.{fits_by}
 use Rattle.lane_search.proofs.Totals.{less_is, less_small}
@@ -26,8 +26,8 @@ fits c =
     let y = simp to_z-of_z at c.times-2.ensures.small in
     fits_by _ _ (less_small c.times.result c.times-2.result 2560000000000000 134400000000000 (omega arith) (omega arith)) (lit≤ tt)
 
-pub overflow-sub-result : goal.overflow-sub-result
-overflow-sub-result c =
+pub overflow_sub-result : goal.overflow_sub-result
+overflow_sub-result c =
     let x : SFits w64 c.times.result = search rules in
     let y : SFits w64 c.times-2.result = search rules in
     simp to_z-of_z (fits c)

@@ -25,5 +25,5 @@ returns g c =
     let t : SFits w64 c.times.result = search rules in
     let all : get_or c.args.helps.now (length c.args.helps.now - 1) (pos 0) ≡ areas l (gains g.S.Sense.beyond l) =
     ap (λ k. get_or c.args.helps.now k (pos 0)) (omega (arith, c.requires.helps.long)) ∙ c.requires.helps.each l.len (omega arith) in
-    light_reaches g.S.Sense.order _ _ (tame_mild _ c.requires.tame) c.args.set.now.rest.2 c.sign-of.result c.sign-of.ensures _ _
+    light_reaches g.S.Sense.order _ _ (tame_mild _ c.requires.tame) c.args.set.now.rest.2 c.sign_of.result c.sign_of.ensures _ _
     (simp to_z-of_z at c.new.ensures.sum ∙ simp to_z-of_z at c.times.ensures.value ∙ ap (λ (v : ℤ). pos (112 * c.args.set.now.loads.lane) *ℤ v) all) c.new.ensures.place

@@ -9,17 +9,17 @@ use Rattle.lane_search.proofs.Totals.{add_first, add_turn, add_last, cell_of}
 use Rattle.lane_search.proofs.running.add_up.Given as given
 use Rattle.lane_search.proofs.running.add_up.Goals as goal
 
-fits : (g : given.Over) (c : goal.After-part-of-sum g) → SFits w64 (c.loop-k.sum +ℤ c.part-of-sum.result)
+fits : (g : given.Over) (c : goal.After-part_of-sum g) → SFits w64 (c.loop-k.sum +ℤ c.part_of-sum.result)
 fits g c =
     let l = sampled c.args.ys.now in
     let w = under_small l (tame_mild _ c.requires.tame) (λ k. c.args.every || gains g.S.Sense.beyond l k) (c.loop-k.k - 1) (omega (arith, c.requires.tame.short)) in
     let e = c.loop-k.invariant.0 in
     omega (arith, ints)
 
-pub overflow-add-sum : goal.overflow-add-sum
-overflow-add-sum g c =
+pub overflow_add-sum : goal.overflow_add-sum
+overflow_add-sum g c =
     let f = fits g c in
-    let r : SFits w64 c.part-of-sum.result = search rules in
+    let r : SFits w64 c.part_of-sum.result = search rules in
     simp (to_z-of_z, c.loop-k.sum-is) f
 
 pub loop-k-init : goal.loop-k-init
@@ -29,12 +29,12 @@ pub loop-k-preserved : goal.loop-k-preserved
 loop-k-preserved g c =
     let l = sampled c.args.ys.now in
     let f = fits g c in
-    let r : SFits w64 c.part-of-sum.result = search rules in
+    let r : SFits w64 c.part_of-sum.result = search rules in
     let k = c.loop-k.k in
     let d : Bool → ℤ → ℤ = λ b z. cond (b || g.S.Sense.beyond z (pos 0)) z (pos 0) in
     let one = cell_of c.args.ys.now k (omega arith) in
-    let part = c.part-of-sum.ensures.value ∙ ap (d c.args.every) (omega (arith, ints)) in
-    add_turn l (λ k. c.args.every || gains g.S.Sense.beyond l k) _ _ k _ c.part-of-sum.result _ c.loop-k.invariant (omega arith) c.loop-k-test.true part (omega (arith, ints))
+    let part = c.part_of-sum.ensures.value ∙ ap (d c.args.every) (omega (arith, ints)) in
+    add_turn l (λ k. c.args.every || gains g.S.Sense.beyond l k) _ _ k _ c.part_of-sum.result _ c.loop-k.invariant (omega arith) c.loop-k-test.true part (omega (arith, ints))
 
 pub returns : goal.returns
 returns g c = add_last (sampled c.args.ys.now) (λ k. c.args.every || gains g.S.Sense.beyond (sampled c.args.ys.now) k) _ _ c.loop-k.k _ c.loop-k.invariant (omega arith) (omega (arith, c.requires.tame.some))

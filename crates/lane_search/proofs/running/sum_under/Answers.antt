@@ -9,6 +9,6 @@ unfolding between
 returns c =
     let sums = c.args.sums.now in
     let at : ℤ → ℤ = λ x. get_or sums (clip (length sums - 1) x) (pos 0) in
-    let e : c.sum-to.result ≡ at (c.args.a +ℤ pos c.args.len) = c.sum-to.ensures.value ∙ ap at (omega (arith, ints)) in
-    let f : c.sum-to-2.result ≡ at c.args.a = c.sum-to-2.ensures.value ∙ ap at (omega (arith, ints)) in
+    let e : c.sum_to.result ≡ at (c.args.a +ℤ pos c.args.len) = c.sum_to.ensures.value ∙ ap at (omega (arith, ints)) in
+    let f : c.sum_to-2.result ≡ at c.args.a = c.sum_to-2.ensures.value ∙ ap at (omega (arith, ints)) in
     record { value = omega (arith, ints); small = omega (arith, ints) }

@@ -8,19 +8,19 @@ pub loop-at-init : goal.loop-at-init
 loop-at-init g c =
     let o = g.S.Sense.order in
     let fa : SFits w64 c.args.from = c.ranges.from in
-    let fr : SFits w64 c.ordinate-at.result = search rules in
+    let fr : SFits w64 c.ordinate_at.result = search rules in
     let fs : SFits w64 c.new-best.result.sum = search rules in
     simp to_z-of_z (fill_first o (sampled c.args.ys.now) c.args.from c.args.tops.now (length c.args.tops.now - 1) _ _ _
-    (omega arith) (omega (arith, ints)) (simp to_z-of_z at c.new-best.ensures.sum ∙ simp to_z-of_z at c.ordinate-at.ensures.value) (simp to_z-of_z at c.new-best.ensures.place))
+    (omega arith) (omega (arith, ints)) (simp to_z-of_z at c.new-best.ensures.sum ∙ simp to_z-of_z at c.ordinate_at.ensures.value) (simp to_z-of_z at c.new-best.ensures.place))
 
 pub loop-at-preserved : goal.loop-at-preserved
 loop-at-preserved g c =
     let o = g.S.Sense.order in
     let fa : SFits w64 c.args.from = c.ranges.from in
     let fs : SFits w64 c.offer.new.self.sum = search rules in
-    let fr : SFits w64 c.ordinate-at-in-loop-at.result = search rules in
+    let fr : SFits w64 c.ordinate_at-in-loop-at.result = search rules in
     simp to_z-of_z (fill_turn o (sampled c.args.ys.now) c.args.from c.loop-at.tops c.loop-at.at (c.loop-at.at - 1) _ _ _ _ _ _ _
-    (simp to_z-of_z at c.loop-at.invariant) (omega arith) (omega (arith, ints)) c.ordinate-at-in-loop-at.ensures.value
+    (simp to_z-of_z at c.loop-at.invariant) (omega arith) (omega (arith, ints)) c.ordinate_at-in-loop-at.ensures.value
     (simp to_z-of_z at c.offer.ensures.sum) (simp to_z-of_z at c.offer.ensures.place))
 
 pub returns : goal.returns
