@@ -6,7 +6,7 @@ use Rattle.search.proofs.arrangements.across.Goals as goal
 
 pub returns : goal.returns
 returns g c l t on back =
-    let fs : SFits w64 c.worst-layout-worst.result.sum = search rules in
-    let found = c.worst-layout-worst in
-    simp to_z-of_z (worst_of_all g.S.Sense.order l t c.args.carriageway.now.deck (listed c.args.shares.now) c.args.on.now c.args.back.now c.worths-of-worths.result
-    found.result.sum found.result.place c.write.new.found on back c.args.carriageway.now.widest c.worths-of-worths.ensures found.ensures.worst found.ensures.few c.write.ensures)
+    let fs : SFits w64 c.worst_layout-worst.result.sum = search rules in
+    let found = c.worst_layout-worst in
+    simp to_z-of_z (worst_of_all g.S.Sense.order l t c.args.carriageway.now.deck (listed c.args.shares.now) c.args.on.now c.args.back.now c.worths_of-worths.result
+    found.result.sum found.result.place c.write.new.found on back c.args.carriageway.now.widest c.worths_of-worths.ensures found.ensures.worst found.ensures.few c.write.ensures)

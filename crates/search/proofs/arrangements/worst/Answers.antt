@@ -12,16 +12,16 @@ pub across-requires : goal.across-requires
 across-requires g c =
     let l = line_read c.of-sample.result in
     let t = c.args.set.now.loads in
-    let up = c.furthest-loads-up in
-    let down = c.furthest-loads-down in
+    let up = c.furthest_loads-up in
+    let down = c.furthest_loads-down in
     record { on = both_moderate l t up.result up.ensures.heavy up.ensures.light; back = both_moderate l t down.result down.ensures.heavy down.ensures.light }
 
 pub across-requires-in-Down : goal.across-requires-in-Down
 across-requires-in-Down g c =
     let l = line_read c.of-sample.result in
     let t = c.args.set.now.loads in
-    let up = c.furthest-loads-up in
-    let down = c.furthest-loads-down in
+    let up = c.furthest_loads-up in
+    let down = c.furthest_loads-down in
     record { on = both_moderate l t down.result down.ensures.heavy down.ensures.light; back = both_moderate l t up.result up.ensures.heavy up.ensures.light }
 
 pub returns-in-Up : goal.returns-in-Up
@@ -31,8 +31,8 @@ returns-in-Up g c =
     let l = at c.args.line in
     let t = c.args.set.now.loads in
     let alike : Alike read l = subst (λ (i : ℤ). Alike read (at i)) (to_z-of_z w32 c.args.line c.ranges.line) c.of-sample.ensures in
-    let up = c.furthest-loads-up in
-    let down = c.furthest-loads-down in
+    let up = c.furthest_loads-up in
+    let down = c.furthest_loads-down in
     subst (λ (d : Direction). Found d t c.args.carriageway.now.deck l (listed c.args.shares.now) c.across.result.0 c.across.result.1 c.across.new.found) (sym c.in-Up.is)
     (found_up (c.across.ensures l t (both_alike read l t up.result alike up.ensures.heavy up.ensures.light) (both_alike read l t down.result alike down.ensures.heavy down.ensures.light)))
 
@@ -43,7 +43,7 @@ returns-in-Down g c =
     let l = at c.args.line in
     let t = c.args.set.now.loads in
     let alike : Alike read l = subst (λ (i : ℤ). Alike read (at i)) (to_z-of_z w32 c.args.line c.ranges.line) c.of-sample.ensures in
-    let up = c.furthest-loads-up in
-    let down = c.furthest-loads-down in
+    let up = c.furthest_loads-up in
+    let down = c.furthest_loads-down in
     subst (λ (d : Direction). Found d t c.args.carriageway.now.deck l (listed c.args.shares.now) c.across-in-Down.result.0 c.across-in-Down.result.1 c.across-in-Down.new.found) (sym c.in-Down.is)
     (found_down (c.across-in-Down.ensures l t (both_alike read l t down.result alike down.ensures.heavy down.ensures.light) (both_alike read l t up.result alike up.ensures.heavy up.ensures.light)))
