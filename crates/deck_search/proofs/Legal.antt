@@ -1,6 +1,6 @@
 -- A legal layout is one with room right of the left edge.
 use Rattle.std.proofs.Common.{◌≡◌, ℕ, ◌+◌, Bool, true, leb, List, [], ◌∷◌, ℤ, pos, ◌+ℤ◌, ◌≤ℤ◌, arith}
-use Rattle.std.specs.List.{AllByRecursion as All}
+use Rattle.std.specs.List.{AllByRecursion}
 use Rattle.std.proofs.lemmas.Int.{ints}
 use Rattle.std.proofs.lemmas.Bool.{and_from, le-leb}
 use Rattle.keeper.specs.Worst.{Worst}
@@ -33,19 +33,19 @@ after_before : (x : Slot) (xs : List Slot) → After (x.centre + 2 + half x.heav
 after_before x [] a = tt
 after_before x (y ∷ ys) a = omega (arith, ints)
 
-stands : (w : Deck) (s : ℕ) (xs : List Slot) → All (SlotWithin w) xs → SlotsApart xs → After s xs → Stand w s xs
+stands : (w : Deck) (s : ℕ) (xs : List Slot) → AllByRecursion (SlotWithin w) xs → SlotsApart xs → After s xs → Stand w s xs
 stands w s [] i b a = tt
 stands w s (x ∷ xs) i b a =
     (omega (arith, ints), within_keeps w x i.0, stands w (x.centre + 2 + half x.heavy) xs i.1 b.1 (before_after x xs b.0))
 
-apart : (w : Deck) (s : ℕ) (xs : List Slot) → Stand w s xs → All (SlotWithin w) xs × SlotsApart xs × After s xs
+apart : (w : Deck) (s : ℕ) (xs : List Slot) → Stand w s xs → AllByRecursion (SlotWithin w) xs × SlotsApart xs × After s xs
 apart w s [] h = (tt, tt, tt)
 apart w s (x ∷ xs) h =
     let r = apart w (x.centre + 2 + half x.heavy) xs h.2 in
     let le = h.0 in
     ((keeps_within w x h.1, r.0), (after_before x xs r.2, r.1), omega (arith, ints))
 
-from_edge : (w : Deck) (xs : List Slot) → All (SlotWithin w) xs → After 0 xs
+from_edge : (w : Deck) (xs : List Slot) → AllByRecursion (SlotWithin w) xs → After 0 xs
 from_edge w [] i = tt
 from_edge w (x ∷ xs) i =
     let z = sizes x.heavy w.left in

@@ -1,6 +1,6 @@
 -- Layouts of lanes across a carriageway: which are legal, and what they add to the sum.
 use Rattle.std.specs.Prelude.{ℕ, ◌+◌, ◌≤◌, cond, List, [], ◌∷◌, take, ℤ, pos, ◌+ℤ◌, ◌-ℤ◌, neg_ℤ, ◌≤ℤ◌, slice_index_or}
-use Rattle.std.specs.List.{AllByRecursion as All}
+use Rattle.std.specs.List.{AllByRecursion}
 use Rattle.loads.specs.declared.decks.Deck.{Deck}
 use Rattle.loads.specs.Decks.{half, past}
 use Rattle.deck_search.specs.declared.layouts.Slot.{Slot}
@@ -34,7 +34,7 @@ slot_heavies (x ∷ xs) = cond x.heavy 1 0 + slot_heavies xs
 
 -- A legal layout, from left to right. No lane at all is legal too.
 pub record LegalLayout (w : Deck) (slots : List Slot) : Type 0 where
-  pub within : All (SlotWithin w) slots
+  pub within : AllByRecursion (SlotWithin w) slots
   pub apart : SlotsApart slots
   pub two_heavy : slot_heavies slots ≤ 2
 

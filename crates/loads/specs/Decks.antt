@@ -1,6 +1,6 @@
 -- Lanes across a carriageway, and which arrangements of them are legal.
 use Rattle.std.specs.Prelude.{◌≡◌, ℕ, ◌+◌, ◌≤◌, Bool, true, false, cond, ◌&&◌, List, [], ◌∷◌, ℤ, pos, negsuc, ◌+ℤ◌, ◌-ℤ◌, neg_ℤ, ◌≤ℤ◌}
-use Rattle.std.specs.List.{AllByRecursion as All}
+use Rattle.std.specs.List.{AllByRecursion}
 use Rattle.lines.specs.Cells.{block}
 use Rattle.loads.specs.declared.decks.Deck.{Deck}
 use Rattle.loads.specs.declared.load_sets.Loads.{Loads}
@@ -69,7 +69,7 @@ Placed t (light set) = Unit {0}
 
 -- A legal arrangement of the load set on the carriageway. No lane at all is legal too.
 pub record Legal (t : Loads) (w : Deck) (lanes : List Lane) : Type 0 where
-  pub within : All (Within w) lanes
+  pub within : AllByRecursion (Within w) lanes
   pub apart : Apart lanes
   pub two_heavy : heavies lanes ≤ 2
-  pub placed : All (λ x. Placed t x.load) lanes
+  pub placed : AllByRecursion (λ x. Placed t x.load) lanes

@@ -2,7 +2,7 @@
 use Rattle.std.proofs.Common.{◌≡◌, ℕ, ◌+◌, ◌≤◌, Bool, true, false, cond, List, [], ◌∷◌, map, ℤ, pos, negsuc, ◌+ℤ◌, ◌-ℤ◌, ◌*ℤ◌, neg_ℤ, nat_abs, ◌≤ℤ◌, sym, refl, ap, ◌∙◌, subst, arith}
 use borrow.Author.Differences.{ints}
 use lib.IntN.{+ℤ_comm}
-use Rattle.std.specs.List.{AllByRecursion as All}
+use Rattle.std.specs.List.{AllByRecursion}
 use Rattle.keeper.specs.Order.{Order}
 use Rattle.keeper.specs.Worst.{Worst}
 use Rattle.keeper.proofs.Steps.{not_beyond_itself}
@@ -70,13 +70,13 @@ module _ (w : Deck) where
     to = subst (λ (b : Bool). To b (right_side x)) (sym f.kind) (subst (To y.heavy) (sym (right_same x y f)) h.to);
   }
 
-  all_slots : (xs : List Lane) (ys : List Slot) → InSlots xs ys → All (Within w) xs → All (SlotWithin w) ys
+  all_slots : (xs : List Lane) (ys : List Slot) → InSlots xs ys → AllByRecursion (Within w) xs → AllByRecursion (SlotWithin w) ys
   all_slots [] [] f h = tt
   all_slots [] (y ∷ ys) f h = absurd f
   all_slots (x ∷ xs) [] f h = absurd f
   all_slots (x ∷ xs) (y ∷ ys) f h = (within_slot x y f.0 h.0, all_slots xs ys f.1 h.1)
 
-  all_lanes : (xs : List Lane) (ys : List Slot) → InSlots xs ys → All (SlotWithin w) ys → All (Within w) xs
+  all_lanes : (xs : List Lane) (ys : List Slot) → InSlots xs ys → AllByRecursion (SlotWithin w) ys → AllByRecursion (Within w) xs
   all_lanes [] [] f h = tt
   all_lanes [] (y ∷ ys) f h = absurd f
   all_lanes (x ∷ xs) [] f h = absurd f
@@ -108,7 +108,7 @@ legal_slots t w xs ys f h = record {
   two_heavy = subst (λ (n : ℕ). n ≤ 2) (heavies_slots xs ys f) h.two_heavy;
 }
 
-legal_lanes : (t : Loads) (w : Deck) (xs : List Lane) (ys : List Slot) → InSlots xs ys → All (λ x. Placed t x.load) xs → LegalLayout w ys → Legal t w xs
+legal_lanes : (t : Loads) (w : Deck) (xs : List Lane) (ys : List Slot) → InSlots xs ys → AllByRecursion (λ x. Placed t x.load) xs → LegalLayout w ys → Legal t w xs
 legal_lanes t w xs ys f p h = record {
   within = all_lanes w xs ys f h.within;
   apart = subst (λ (P : Type 0). P) (sym (apart_slots xs ys f)) h.apart;
@@ -136,7 +136,7 @@ centred w x h = on_width (heavy x.load) w.left w.right w.width x.centre h.from h
 abbrev slot_of : Lane → Slot
 slot_of x = record { heavy = heavy x.load; centre = nat_abs x.centre }
 
-in_slots : (w : Deck) (xs : List Lane) → All (Within w) xs → InSlots xs (map slot_of xs)
+in_slots : (w : Deck) (xs : List Lane) → AllByRecursion (Within w) xs → InSlots xs (map slot_of xs)
 in_slots w [] h = tt
 in_slots w (x ∷ xs) h = (record { kind = refl; centre = (centred w x h.0).0 }, in_slots w xs h.1)
 
@@ -154,7 +154,7 @@ module _
       let n : beyond (c *ℤ lane_effect l t x.load) (c *ℤ best (heavy x.load) c) ≡ false = (fill (heavy x.load) c).none x.load (refl, p) in
       ap (λ (z : ℤ). beyond (z *ℤ lane_effect l t x.load) (worth ws (slot_of x))) e ∙ ap (beyond (c *ℤ lane_effect l t x.load)) v ∙ n
 
-  sum_below : (xs : List Lane) → All (Within w) xs → All (λ x. Placed t x.load) xs → beyond (traffic_sum l t ss xs) (total ws (map slot_of xs)) ≡ false
+  sum_below : (xs : List Lane) → AllByRecursion (Within w) xs → AllByRecursion (λ x. Placed t x.load) xs → beyond (traffic_sum l t ss xs) (total ws (map slot_of xs)) ≡ false
   sum_below [] h p = not_beyond_itself o (pos 0)
   sum_below (x ∷ xs) h p =
       ap (beyond (shared l t ss x +ℤ traffic_sum l t ss xs)) (+ℤ_comm (total ws (map slot_of xs)) (worth ws (slot_of x)))
@@ -164,7 +164,7 @@ module _
   fill_slots [] = tt
   fill_slots (y ∷ ys) = (record { kind = (fill y.heavy (share ss (pos y.centre))).within.0; centre = refl }, fill_slots ys)
 
-  fill_placed : (ys : List Slot) → All (λ x. Placed t x.load) (map (lane_at l t ss place) ys)
+  fill_placed : (ys : List Slot) → AllByRecursion (λ x. Placed t x.load) (map (lane_at l t ss place) ys)
   fill_placed [] = tt
   fill_placed (y ∷ ys) = ((fill y.heavy (share ss (pos y.centre))).within.1, fill_placed ys)
 
@@ -174,7 +174,7 @@ module _
       adds y.heavy y.centre (on_width y.heavy w.left w.right w.width (pos y.centre) h.from h.to).1
       ∙ (fill y.heavy (share ss (pos y.centre))).reached
 
-  fill_sum : (ys : List Slot) → All (SlotWithin w) ys → total ws ys ≡ traffic_sum l t ss (map (lane_at l t ss place) ys)
+  fill_sum : (ys : List Slot) → AllByRecursion (SlotWithin w) ys → total ws ys ≡ traffic_sum l t ss (map (lane_at l t ss place) ys)
   fill_sum [] h = refl
   fill_sum (y ∷ ys) h =
       +ℤ_comm (total ws ys) (worth ws y)

@@ -1,6 +1,6 @@
 -- Arrays that are filled from their start: what lanes add at each centre, and the lanes of a record.
 use Rattle.std.proofs.Common.{◌≡◌, ℕ, zero, suc, ◌+◌, ◌<◌, ◌≤◌, List, [], ◌∷◌, ◌++◌, map, length, get_or, take, drop, set, replicate, ℤ, pos, negsuc, nat_abs, sym, refl, ap, ◌∙◌, inl, inr, add-one, arith, length-set, drop-cons, get_or-set_other, get_or-set_same, drop-set-lt}
-use Rattle.std.specs.List.{AllByRecursion as All}
+use Rattle.std.specs.List.{AllByRecursion}
 use Rattle.std.proofs.lemmas.List.{map-append, take_more, take_more_set}
 use Rattle.std.proofs.lemmas.Bool.{cases_eq}
 use Rattle.traffic.specs.declared.records.LaneRecord.{LaneRecord}
@@ -46,7 +46,7 @@ table_turn f k xs v r lt e le =
 pub record Laned (lane : Slot → LaneRecord) (slots : List Slot) (i : ℕ) (lanes : List LaneRecord) : Type 0 where
   pub long : length lanes ≡ 6
   pub used : take i lanes ≡ map lane (take i slots)
-  pub past : All (λ x. x ≡ blank) (drop i lanes)
+  pub past : AllByRecursion (λ x. x ≡ blank) (drop i lanes)
 
 pub lanes_first : (lane : Slot → LaneRecord) (slots : List Slot) → Laned lane slots 0 (replicate 6 blank)
 lanes_first lane slots = record { long = refl; used = refl; past = (refl, (refl, (refl, (refl, (refl, (refl, tt)))))) }
@@ -55,7 +55,7 @@ pub lanes_turn : (lane : Slot → LaneRecord) (slots : List Slot) (i : ℕ) (lan
 lanes_turn lane slots i lanes d v r lt in-slots e =
     let long = r.long in
     let in_row : i < length lanes = omega arith in
-    let rest : All (λ x. x ≡ blank) (get_or lanes i blank ∷ drop (suc i) lanes) = rw (drop-cons lanes i blank in_row) at r.past in
+    let rest : AllByRecursion (λ x. x ≡ blank) (get_or lanes i blank ∷ drop (suc i) lanes) = rw (drop-cons lanes i blank in_row) at r.past in
     let over : i < suc i = omega arith in
     record {
       long = length-set lanes i v ∙ r.long;

@@ -2,7 +2,7 @@
 use Rattle.std.proofs.Common.{◌≡◌, ℕ, ◌≤◌, Bool, true, false, List, [], ◌∷◌, map, take, drop, ℤ, pos, negsuc, sym, refl, ap, ◌∙◌, subst, arith}
 use borrow.Author.Differences.{ints, lt-false}
 use lib.Signed.{lt_z}
-use Rattle.std.specs.List.{AllByRecursion as All}
+use Rattle.std.specs.List.{AllByRecursion}
 use Rattle.keeper.specs.Order.{Order}
 use Rattle.keeper.specs.Worst.{Worst}
 use Rattle.lines.specs.Lines.{Line}
@@ -42,7 +42,7 @@ module _ (l : Line) (t : Loads) (ss : List ℤ) (place : Bool → ℤ → LanePl
   lanes_same [] = refl
   lanes_same (x ∷ xs) = ap (λ (ys : List Lane). lane_at l t ss place x ∷ ys) (lanes_same xs)
 
-unused_lanes : (ss : List ℤ) (place : Bool → ℤ → LanePlace) → ((h : Bool) (c : ℤ) → UnusedPlace (place h c)) → (xs : List Slot) → All UnusedLane (map (lane_record ss place) xs)
+unused_lanes : (ss : List ℤ) (place : Bool → ℤ → LanePlace) → ((h : Bool) (c : ℤ) → UnusedPlace (place h c)) → (xs : List Slot) → AllByRecursion UnusedLane (map (lane_record ss place) xs)
 unused_lanes ss place u [] = tt
 unused_lanes ss place u (x ∷ xs) = (u x.heavy (share ss (pos x.centre)), unused_lanes ss place u xs)
 
@@ -50,8 +50,8 @@ unused_lanes ss place u (x ∷ xs) = (u x.heavy (share ss (pos x.centre)), unuse
 written_form : (ss : List ℤ) (place : Bool → ℤ → LanePlace) (layout : Layout) (r : Record) → ((h : Bool) (c : ℤ) → UnusedPlace (place h c)) → layout.count ≤ 6 → Written (lane_record ss place) layout r → InForm r
 written_form ss place layout r u few w = record {
   count = subst (λ (n : ℕ). n ≤ 6) (sym w.count) few;
-  unused = subst (λ (n : ℕ). All UnusedLane (take n r.lanes)) (sym w.count) (subst (All UnusedLane) (sym w.lanes) (unused_lanes ss place u (slots_of layout)));
-  past = subst (λ (n : ℕ). All (λ x. x ≡ blank) (drop n r.lanes)) (sym w.count) w.past;
+  unused = subst (λ (n : ℕ). AllByRecursion UnusedLane (take n r.lanes)) (sym w.count) (subst (AllByRecursion UnusedLane) (sym w.lanes) (unused_lanes ss place u (slots_of layout)));
+  past = subst (λ (n : ℕ). AllByRecursion (λ x. x ≡ blank) (drop n r.lanes)) (sym w.count) w.past;
 }
 
 written_lanes : (l : Line) (t : Loads) (ss : List ℤ) (place : Bool → ℤ → LanePlace) (layout : Layout) (r : Record) → Written (lane_record ss place) layout r → arrangement l t r ≡ map (lane_at l t ss place) (slots_of layout)

@@ -1,6 +1,6 @@
 -- Layouts that are filled with loads.
 use Rattle.std.specs.Prelude.{◌≡◌, ◌≤◌, Bool, cond, List, map, take, drop, ℤ, pos, negsuc, ◌*ℤ◌, unsigned_abs}
-use Rattle.std.specs.List.{AllByRecursion as All}
+use Rattle.std.specs.List.{AllByRecursion}
 use Rattle.lines.specs.Lines.{Line}
 use Rattle.loads.specs.declared.load_sets.Loads.{Loads}
 use Rattle.loads.specs.Decks.{Lane}
@@ -57,4 +57,4 @@ lane_record ss place x =
 pub record Written (lane : Slot → LaneRecord) (layout : Layout) (r : Record) : Type 0 where
   pub count : r.count ≡ layout.count
   pub lanes : take layout.count r.lanes ≡ map lane (slots_of layout)
-  pub past : All (λ x. x ≡ blank) (drop layout.count r.lanes)
+  pub past : AllByRecursion (λ x. x ≡ blank) (drop layout.count r.lanes)

@@ -2,7 +2,7 @@
 use Rattle.std.proofs.Common.{◌≡◌, ℕ, ◌+◌, ◌≤◌, Bool, true, false, cond, leb, List, [], ◌∷◌, map, take, drop, ℤ, pos, ◌+ℤ◌, ◌-ℤ◌, ◌≤ℤ◌, Decides, sym, refl, ap, ◌∙◌, subst, arith}
 use borrow.Author.Differences.{ints}
 use lib.Signed.{le_z}
-use Rattle.std.specs.List.{AllByRecursion as All}
+use Rattle.std.specs.List.{AllByRecursion}
 use Rattle.std.proofs.lemmas.Bool.{and_parts, not-true, leb-true, le-leb}
 use Rattle.std.proofs.lemmas.Bool.Decides.{Decides-and, Decides-like}
 use Rattle.std.proofs.ByRecursion.{Decides-by_and}
@@ -112,7 +112,7 @@ decides_blank x =
     (λ e. ((((ap (λ (y : LaneRecord). y.centre) e, ap (λ (y : LaneRecord). y.a) e), ap (λ (y : LaneRecord). y.z) e), ap (λ (y : LaneRecord). y.code) e), ap (λ (y : LaneRecord). y.sign) e))
     (Decides-and _ _ (Decides-and _ _ (Decides-and _ _ (Decides-and _ _ (decides_zero x.centre) (decides_zero x.a)) (decides_zero x.z)) (decides_light x.code)) (decides_none x.sign))
 
-decides_all : {X : Type 0} (f : X → Bool) (P : X → Type 0) → ((x : X) → Decides (f x) (P x)) → (xs : List X) → Decides (all_test f xs) (All P xs)
+decides_all : {X : Type 0} (f : X → Bool) (P : X → Type 0) → ((x : X) → Decides (f x) (P x)) → (xs : List X) → Decides (all_test f xs) (AllByRecursion P xs)
 decides_all f P each xs = Decides-by_and f P (all_test f) each refl (λ _ _. refl) xs
 
 decides_before : (l : Line) (t : Loads) (x : LaneRecord) (xs : List LaneRecord) → Decides (before_test x xs) (Before (lane_of l t x) (map (lane_of l t) xs))
@@ -133,11 +133,11 @@ heavies_same l t [] = refl
 heavies_same l t (x ∷ xs) =
     ap (λ (b : Bool). cond b 1 0 + heavies (map (lane_of l t) xs)) (sym (lane_heavy l t x)) ∙ ap (λ (n : ℕ). cond (heavy_code x.code) 1 0 + n) (heavies_same l t xs)
 
-all_apart : {X Y : Type 0} (P : X → Type 0) (Q R : Y → Type 0) (f : X → Y) (xs : List X) → All (λ x. (P x × Q (f x)) × R (f x)) xs → (All P xs × All Q (map f xs)) × All R (map f xs)
+all_apart : {X Y : Type 0} (P : X → Type 0) (Q R : Y → Type 0) (f : X → Y) (xs : List X) → AllByRecursion (λ x. (P x × Q (f x)) × R (f x)) xs → (AllByRecursion P xs × AllByRecursion Q (map f xs)) × AllByRecursion R (map f xs)
 all_apart P Q R f [] h = ((tt, tt), tt)
 all_apart P Q R f (x ∷ xs) h = let r = all_apart P Q R f xs h.1 in (((h.0.0.0, r.0.0), (h.0.0.1, r.0.1)), (h.0.1, r.1))
 
-all_joined : {X Y : Type 0} (P : X → Type 0) (Q R : Y → Type 0) (f : X → Y) (xs : List X) → All P xs → All Q (map f xs) → All R (map f xs) → All (λ x. (P x × Q (f x)) × R (f x)) xs
+all_joined : {X Y : Type 0} (P : X → Type 0) (Q R : Y → Type 0) (f : X → Y) (xs : List X) → AllByRecursion P xs → AllByRecursion Q (map f xs) → AllByRecursion R (map f xs) → AllByRecursion (λ x. (P x × Q (f x)) × R (f x)) xs
 all_joined P Q R f [] p q r = tt
 all_joined P Q R f (x ∷ xs) p q r = (((p.0, q.0), r.0), all_joined P Q R f xs p.1 q.1 r.1)
 

@@ -1,6 +1,6 @@
 -- Figures worked out by hand, on one small line.
 use Rattle.std.specs.Prelude.{◌≡◌, ℕ, zero, suc, ◌-◌, Bool, true, false, List, [], ◌∷◌, ◌++◌, length, replicate, ℤ, pos, negsuc}
-use Rattle.std.specs.List.{AllByRecursion as All}
+use Rattle.std.specs.List.{AllByRecursion}
 use Rattle.loads.specs.declared.classes.Class.TheVariants.{Bk10}
 use Rattle.loads.specs.declared.load_sets.Group.TheVariants.{Single, Bogie12}
 use Rattle.loads.specs.declared.decks.Deck.{Deck}
@@ -84,4 +84,4 @@ Holds f = HoldsOf f.deck (record_of f.lanes) f.found
 
 -- Every figure is what the definitions say.
 abbrev pub FiguresHold : Type 0
-FiguresHold = All Holds figures
+FiguresHold = AllByRecursion Holds figures

@@ -1,6 +1,6 @@
 -- The record of an arrangement: its form, and which arrangement it stands for.
 use Rattle.std.specs.Prelude.{◌≡◌, ℕ, ◌≤◌, Bool, false, not, ◌&&◌, List, map, take, drop, ℤ, pos, negsuc, Option, int_lt}
-use Rattle.std.specs.List.{AllByRecursion as All}
+use Rattle.std.specs.List.{AllByRecursion}
 use Rattle.loads.specs.declared.load_sets.Group.TheVariants.{Single, Bogie12, Bogie21, Triple211, Triple121, Triple112}
 use Rattle.loads.specs.declared.decks.Deck.{Deck}
 use Rattle.loads.specs.declared.load_sets.Loads.{Loads}
@@ -74,8 +74,8 @@ blank = record { centre = pos 0; code = code.Light; a = pos 0; z = pos 0; sign =
 
 pub record InForm (r : Record) : Type 0 where
   pub count : r.count ≤ 6
-  pub unused : All (λ x. Unused x.code x.a x.z x.sign) (take r.count r.lanes)
-  pub past : All (λ x. x ≡ blank) (drop r.count r.lanes)
+  pub unused : AllByRecursion (λ x. Unused x.code x.a x.z x.sign) (take r.count r.lanes)
+  pub past : AllByRecursion (λ x. x ≡ blank) (drop r.count r.lanes)
 
 -- The record is in form, and what it stands for is legal.
 pub record Accepted (t : Loads) (w : Deck) (l : Line) (r : Record) : Type 0 where
