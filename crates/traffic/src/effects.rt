@@ -82,7 +82,8 @@ pub fn axle_weights(set: &LoadSet, group: Group) -> (u16, u16, u16)
     ensures value { result ≡ padded (weights set.now.loads group) }
     ensures small { (result.0 ≤ 200) × ((result.1 ≤ 200) × (result.2 ≤ 200)) }
 {
-    weights_of(&set.loads, group)
+    let loads = &set.loads;
+    weights_of(loads, group)
 }
 
 // The weights of a group times the ordinates at its axles, the first at a.
