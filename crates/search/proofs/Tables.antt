@@ -1,8 +1,9 @@
 -- Arrays that are filled from their start: what lanes add at each centre, and the lanes of a record.
-use Rattle.std.proofs.Common.{◌≡◌, ℕ, zero, suc, ◌+◌, ◌<◌, ◌≤◌, List, [], ◌∷◌, ◌++◌, map, length, get_or, take, drop, set, replicate, ℤ, pos, negsuc, nat_abs, sym, refl, ap, ◌∙◌, inl, inr, add-one, arith, length-set, drop-cons, get_or-set_other, get_or-set_same, drop-set-lt}
+use Rattle.std.proofs.Common.{◌≡◌, ℕ, suc, ◌+◌, ◌<◌, ◌≤◌, List, [], ◌∷◌, ◌++◌, map, length, get_or, take, drop, set, replicate, ℤ, pos, negsuc, nat_abs, sym, refl, ap, ◌∙◌, inl, inr, add-one, arith, length-set, drop-cons, get_or-set_other, get_or-set_same, drop-set-lt}
 use Rattle.std.specs.List.{AllByRecursion}
 use Rattle.std.proofs.lemmas.List.{map-append, take_more, take_more_set}
 use Rattle.std.proofs.lemmas.Bool.{cases_eq}
+use Rattle.loads.proofs.Centres.{zeros_small}
 use Rattle.traffic.specs.declared.records.LaneRecord.{LaneRecord}
 use Rattle.traffic.specs.Records.{blank}
 use Rattle.deck_search.specs.declared.layouts.Slot.{Slot}
@@ -18,13 +19,8 @@ pub record Tabled (f : ℕ → ℤ) (k : ℕ) (xs : List ℤ) : Type 0 where
   pub each : (j : ℕ) → j < k → get_or xs j (pos 0) ≡ f j
   pub small : (j : ℕ) → nat_abs (get_or xs j (pos 0)) ≤ 33000000000000000
 
-zeros_small : (n j : ℕ) → nat_abs (get_or (replicate n (pos 0)) j (pos 0)) ≤ 33000000000000000
-zeros_small zero j = omega arith
-zeros_small (suc n) zero = omega arith
-zeros_small (suc n) (suc j) = zeros_small n j
-
 pub table_first : (f : ℕ → ℤ) → Tabled f 0 (replicate 121 (pos 0))
-table_first f = record { long = refl; each = λ j h. absurd (omega arith); small = zeros_small 121 }
+table_first f = record { long = refl; each = λ j h. absurd (omega arith); small = λ j. let z = zeros_small 121 j in omega arith }
 
 pub table_turn : (f : ℕ → ℤ) (k : ℕ) (xs : List ℤ) (v : ℤ) → Tabled f k xs → k < 121 → v ≡ f k → nat_abs v ≤ 33000000000000000 → Tabled f (k + 1) (set xs k v)
 table_turn f k xs v r lt e le =
