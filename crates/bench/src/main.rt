@@ -6,30 +6,18 @@ ghost use Rattle.std.specs.Prelude.{◌<◌, ◌≤◌};
 use families::rows::StationHead;
 use families::stations::Stations;
 use lane_search::samples::Sample;
+use lines::numbered::Numbered;
 use loads::carriageways::Carriageway;
 use loads::classes::Class;
 use loads::shares::Shares;
 use search::arrangements::worst_each_way;
 use std::io;
-use traffic::records::{Code, LaneRecord, Record, Sign};
+use traffic::records::Record;
 
 const HEADS: [StationHead; 1] = [StationHead {
     step: 500,
     stations: 201,
 }];
-
-const BLANK: LaneRecord = LaneRecord {
-    centre: 0,
-    code: Code::Light,
-    a: 0,
-    z: 0,
-    sign: Sign::None,
-};
-
-const NO_LANES: Record = Record {
-    count: 0,
-    lanes: [BLANK; 6],
-};
 
 // Fills a list with numbers from -most to most, without any order.
 fn fill(numbers: &mut [i32], most: u32)
@@ -49,8 +37,9 @@ fn tell(
     carriageway: &Carriageway,
     shares: &Shares,
 ) -> io::Result<()> {
-    let mut up = NO_LANES;
-    let mut down = NO_LANES;
+    let mut up = Record::EMPTY;
+    let mut down = Record::EMPTY;
+    let number = u8::from(class);
     let (most, least) = worst_each_way(
         sample,
         &class.load_set(),
@@ -59,18 +48,10 @@ fn tell(
         &mut up,
         &mut down,
     );
-    println!(rt;
-        "class {} up {} on {} lanes",
-        class.number(),
-        most.0,
-        most.1
-    )?;
-    println!(rt;
-        "class {} down {} on {} lanes",
-        class.number(),
-        least.0,
-        least.1
-    )
+    for (direction, (sum, lanes)) in [("up", most), ("down", least)] {
+        println!(rt; "class {number} {direction} {sum} on {lanes} lanes")?;
+    }
+    Ok(())
 }
 
 fn main(rt: HostRuntime) -> io::Result<()> {
@@ -85,7 +66,10 @@ fn main(rt: HostRuntime) -> io::Result<()> {
     let Ok(shares) = Shares::new(&carriageway, &percents) else {
         return println!(rt; "the shares are refused");
     };
-    let sample = Sample::of(&family, 0);
+    let sample = Sample::of(&Numbered {
+        family: &family,
+        number: 0,
+    });
     for class in [Class::Bk6, Class::Bk8, Class::BkT8, Class::Bk10] {
         tell(&rt, class, &sample, &carriageway, &shares)?;
     }

@@ -1,5 +1,5 @@
 -- Layouts by where their first lane begins.
-use Rattle.std.proofs.Common.{◌≡◌, ℕ, ◌+◌, ◌-◌, ◌*◌, ◌<◌, ◌≤◌, Bool, true, false, leb, ◌⊎◌, List, [], ◌∷◌, length, sym, refl, ap, subst, inl, inr, arith}
+use Rattle.std.proofs.Common.{◌≡◌, ℕ, ◌+◌, ◌-◌, ◌*◌, ◌<◌, ◌≤◌, Bool, true, false, cond, leb, ◌⊎◌, List, [], ◌∷◌, length, refl, ap, subst, inl, inr, arith}
 use Rattle.std.proofs.lemmas.Bool.{and_parts, leb-true, cases_lt}
 use Rattle.loads.specs.declared.decks.Deck.{Deck}
 use Rattle.loads.specs.Decks.{half, past}
@@ -86,18 +86,16 @@ begins w h s (x ∷ xs) r = by x.heavy x.centre r where
             inl (inr (rw (← e) r.0.1, (ap (λ (n : ℕ). record { heavy = false; centre = n }) e, (moved w _ _ xs (omega arith) r.0.2, omega arith))))
       ]
 
--- and the other way round
-light_begins : (w : Deck) (h s : ℕ) (xs : List Slot) → Tried w (light_at s) (Room w h (s + 20)) xs → Room w h s xs
-light_begins w h s [] t = absurd t.1
-light_begins w h s (x ∷ xs) t =
-    let P : Slot → Type 0 = λ y. Room w h s (y ∷ xs) in
-    subst P (sym t.1.0) ((omega arith, t.0, moved w _ _ xs (omega arith) t.1.1.0), omega arith)
+-- and the other way round: where a layout begins with a lane right of s, it stands right of s
+begun_room : (w : Deck) (l : Slot) (h n s e : ℕ) (xs : List Slot) → s + half l.heavy ≤ l.centre + 2 → e ≡ l.centre + 2 + half l.heavy → cond l.heavy 1 0 + n ≤ h → Tried w l (Room w n e) xs → Room w h s xs
+begun_room w l h n s e [] right past few t = absurd t.1
+begun_room w l h n s e (x ∷ xs) right past few t = rw t.1.0 ((right, t.0, rw (← past) t.1.1.0), omega arith)
 
 pub lighter_room : (w : Deck) (h s : ℕ) (xs : List Slot) → Lighter w h s xs → Room w h s xs
-lighter_room w h s xs a = elim a [ inl r ↦ (earlier w s xs r.0, r.1) | inr t ↦ light_begins w h s xs t ]
+lighter_room w h s xs a = elim a [
+  | inl r ↦ (earlier w s xs r.0, r.1)
+  | inr t ↦ begun_room w (light_at s) h h s (s + 20) xs (omega arith) (omega arith) (omega arith) t
+]
 
 pub heavier_room : (w : Deck) (h s : ℕ) (xs : List Slot) → 0 < h → Heavier w h s xs → Room w h s xs
-heavier_room w h s [] lt t = absurd t.1
-heavier_room w h s (x ∷ xs) lt t =
-    let P : Slot → Type 0 = λ y. Room w h s (y ∷ xs) in
-    subst P (sym t.1.0) ((omega arith, t.0, moved w _ _ xs (omega arith) t.1.1.0), omega arith)
+heavier_room w h s xs lt t = begun_room w (heavy_at s) h (h - 1) s (s + 30) xs (omega arith) (omega arith) (omega arith) t

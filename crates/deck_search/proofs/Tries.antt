@@ -1,5 +1,5 @@
 -- One more lane before the worst of what may follow it.
-use Rattle.std.proofs.Common.{◌≡◌, ℕ, ◌+◌, ◌<◌, Bool, true, false, cond, ◌⊎◌, List, [], ◌∷◌, ℤ, ◌+ℤ◌, refl, ap, ◌∙◌, inl, inr, arith}
+use Rattle.std.proofs.Common.{◌≡◌, ℕ, ◌<◌, Bool, true, false, cond, ◌⊎◌, List, [], ◌∷◌, ℤ, ◌+ℤ◌, refl, ap, ◌∙◌, inl, inr, arith}
 use Rattle.std.proofs.lemmas.Bool.{both_ways}
 use Rattle.keeper.specs.Order.{Order, further_of}
 use Rattle.keeper.specs.Worst.{Worst}
@@ -9,7 +9,7 @@ use Rattle.deck_search.specs.declared.layouts.Slot.{Slot}
 use Rattle.deck_search.specs.declared.worths.Worths.{Worths}
 use Rattle.deck_search.specs.Layouts.{worth, total}
 use Rattle.deck_search.specs.Rooms.{keeps, Room, tried_of}
-use Rattle.deck_search.proofs.Starts.{Led, Tried, light_at, Lighter, Heavier, begins, lighter_room, heavier_room}
+use Rattle.deck_search.proofs.Starts.{Led, Tried, Lighter, Heavier, begins, lighter_room, heavier_room}
 
 module _ {beyond : ℤ → ℤ → Bool} (o : Order beyond) (ws : Worths) where
   led_worst : (l : Slot) (P : List Slot → Type 0) (t : ℤ) (q : List Slot) → Worst beyond (total ws) P t q → Worst beyond (total ws) (Led l P) (t +ℤ worth ws l) (l ∷ q)
@@ -29,12 +29,6 @@ module _ {beyond : ℤ → ℤ → Bool} (o : Order beyond) (ws : Worths) where
     by true e = worst_join o (total ws) P (Led l Q) _ s (t +ℤ worth ws l) p (l ∷ q) a (led_worst l Q t q b)
         (λ x h. inl h) (λ x h. inr (e, h)) (λ x h. elim h [ inl y ↦ inl y | inr y ↦ inr y.1 ])
     by false e = worst_same _ a (λ x h. inl h) (λ x h. elim h [ inl y ↦ y | inr y ↦ absurd (both_ways (keeps w l) e y.0) ])
-
-  -- the first of the two offers
-  pub lighter : (w : Deck) (h n : ℕ) (s t u : ℤ) (p q r : List Slot) → Worst beyond (total ws) (Room w h (n + 1)) s p → Worst beyond (total ws) (Room w h (n + 20)) t q →
-      u ≡ tried_of beyond w ws (light_at n) t s (t +ℤ worth ws (light_at n)) s → r ≡ tried_of beyond w ws (light_at n) t s (light_at n ∷ q) p →
-      Worst beyond (total ws) (Lighter w h n) u r
-  lighter w h n s t u p q r = tried w (light_at n) (Room w h (n + 1)) (Room w h (n + 20)) s t u p q r
 
 -- these are all, where no lane may be heavy
 pub no_heavy : {beyond : ℤ → ℤ → Bool} {f : List Slot → ℤ} {u : ℤ} {p : List Slot} (w : Deck) (h s : ℕ) → h ≡ 0 → Worst beyond f (Lighter w h s) u p → Worst beyond f (Room w h s) u p

@@ -1,10 +1,11 @@
 -- Layouts of lanes across a carriageway: which are legal, and what they add to the sum.
-use Rattle.std.specs.Prelude.{ℕ, ◌+◌, ◌≤◌, cond, List, [], ◌∷◌, take, ℤ, pos, ◌+ℤ◌, ◌-ℤ◌, neg_ℤ, ◌≤ℤ◌, slice_index_or}
+use Rattle.std.specs.Prelude.{ℕ, ◌+◌, ◌≤◌, Bool, cond, List, [], ◌∷◌, map, take, ℤ, pos, ◌+ℤ◌, ◌-ℤ◌, neg_ℤ, ◌≤ℤ◌, slice_index_or}
 use Rattle.std.specs.List.{AllByRecursion}
 use Rattle.loads.specs.declared.decks.Deck.{Deck}
 use Rattle.loads.specs.Decks.{half, past}
 use Rattle.deck_search.specs.declared.layouts.Slot.{Slot}
 use Rattle.deck_search.specs.declared.layouts.Layout.{Layout}
+use Rattle.deck_search.specs.declared.worths.Worth.{Worth}
 use Rattle.deck_search.specs.declared.worths.Worths.{Worths}
 
 -- The sides of a lane, in dm from the left edge of the clear width.
@@ -38,9 +39,12 @@ pub record LegalLayout (w : Deck) (slots : List Slot) : Type 0 where
   pub apart : SlotsApart slots
   pub two_heavy : slot_heavies slots ≤ 2
 
--- What a lane adds to the sum, and a layout.
+-- What a lane adds to the sum, by its kind and centre, and a layout.
+abbrev pub of_kind : Bool → Worth → ℤ
+of_kind heavy v = cond heavy v.heavy v.light
+
 abbrev pub worth : Worths → Slot → ℤ
-worth ws x = slice_index_or (cond x.heavy ws.heavy ws.light) x.centre (pos 0)
+worth ws x = slice_index_or (map (of_kind x.heavy) ws.by_centre) x.centre (pos 0)
 
 abbrev pub total : Worths → List Slot → ℤ
 total ws [] = pos 0

@@ -30,7 +30,6 @@ tried_of beyond w ws x rest old y z = cond (keeps w x) (further_of beyond (rest 
 -- What the search keeps for the layouts right of s with at most h heavy lanes.
 pub record Cell (beyond : ℤ → ℤ → Bool) (w : Deck) (ws : Worths) (h s : ℕ) (sum : ℤ) (place : Layout) : Type 0 where
   pub worst : Worst beyond (total ws) (Room w h s) sum (slots_of place)
-  pub few : place.count ≤ 6
 
 -- Each cell from i on keeps what it is for.
 abbrev pub Row : {S : Type 0} → (ℤ → ℤ → Bool) → Deck → Worths → ℕ → ℕ → List (Keeper S Layout) → Type 0

@@ -1,13 +1,17 @@
 -- What is found of one head after the other, and what a check tells of all.
-use Rattle.std.proofs.Common.{◌≡◌, ℕ, suc, ◌+◌, ◌<◌, ◌≤◌, List, ◌∷◌, length, get_or, take, drop, Some, None, Ok, Err, Result, sym, refl, ap, ◌∙◌, subst, inl, inr, ⊎_elim, add-one}
-use Rattle.std.proofs.lemmas.List.{drop_more, drop_all, drop-drop}
+use Rattle.std.proofs.Common.{◌≡◌, ℕ, suc, ◌+◌, ◌<◌, List, ◌∷◌, length, get_or, take, drop, Some, None, Ok, Err, Result, sym, refl, ap, ◌∙◌, subst, inl, inr, ⊎_elim, add-one}
+use Rattle.std.proofs.lemmas.List.Sums.{sum_by_more}
+use Rattle.std.proofs.lemmas.List.{drop_more, drop-drop}
 use Rattle.lines.specs.Asks.{Asks, none, AllYes, FirstNo}
 use Rattle.lines.proofs.Asking.{no_first_no, one_first_no}
 use Rattle.families.specs.declared.questions.Question.{Question}
 use Rattle.families.specs.declared.questions.Refusal.{Refusal}
 use Rattle.families.specs.Drafts.{Draft, drafts, Found, asked_of, asked_from, Tells}
 use Rattle.families.specs.Own.{start}
-use Rattle.families.proofs.Starts.{start_more}
+
+-- where the rows of the next head begin
+pub start_more : {T : Type 0} (taken : T → ℕ) (hs : List T) (k : ℕ) (h : T) → k < length hs → h ≡ get_or hs k h → start taken hs (k + 1) ≡ start taken hs k + taken h
+start_more taken hs k h lt e = sum_by_more taken hs k h lt ∙ ap (λ w. start taken hs k + taken w) (sym e)
 
 -- The drafts of the heads from i on.
 abbrev pub rest : {T R : Type 0} → (T → ℕ) → (T → List R → Draft) → List T → List R → ℕ → List Draft
@@ -18,26 +22,20 @@ pub record Led {T R : Type 0} (taken : T → ℕ) (draft : T → List R → Draf
   pub yes_all : AllYes (asked_from i (rest taken draft hs rs i)) → AllYes (asked_from 0 (drafts taken draft hs rs))
   pub no_first : (q : Question) (m : ℕ) → FirstNo (asked_from i (rest taken draft hs rs i)) q m → FirstNo (asked_from 0 (drafts taken draft hs rs)) q m
 
--- The rows own of the head h, which stands at i and whose rows begin at `at`.
+-- The rows own of the head h, which stands at i.
 pub record OwnOf {T R : Type 0} (taken : T → ℕ) (hs : List T) (rs : List R) (i : ℕ) (h : T) (own : List R) : Type 0 where
-  pub at : ℕ
   pub there : i < length hs
   pub head : h ≡ get_or hs i h
-  pub begins : at ≡ start taken hs i
-  pub rows : own ≡ take (taken h) (drop at rs)
+  pub rows : own ≡ take (taken h) (drop (start taken hs i) rs)
 
 rest_more : {T R : Type 0} (taken : T → ℕ) (draft : T → List R → Draft) (hs : List T) (rs : List R) (i : ℕ) (h : T) (own : List R) → OwnOf taken hs rs i h own → rest taken draft hs rs i ≡ draft h own ∷ rest taken draft hs rs (i + 1)
 rest_more taken draft hs rs i h own o =
     let s = start taken hs i in
     let a : drop i hs ≡ h ∷ drop (i + 1) hs = drop_more hs i h o.there ∙ ap (λ w. w ∷ drop (i + 1) hs) (sym o.head) in
     let b = drop-drop (taken h) s rs ∙ ap (λ n. drop n rs) (sym (start_more taken hs i h o.there o.head)) in
-    let c = sym (o.rows ∙ ap (λ n. take (taken h) (drop n rs)) o.begins) in
     ap (λ w. drafts taken draft w (drop s rs)) a
     ∙ ap (λ w. draft h (take (taken h) (drop s rs)) ∷ drafts taken draft (drop (i + 1) hs) w) b
-    ∙ ap (λ w. draft h w ∷ rest taken draft hs rs (i + 1)) c
-
-pub led_none : {T R : Type 0} (taken : T → ℕ) (draft : T → List R → Draft) (hs : List T) (rs : List R) → Led taken draft hs rs 0
-led_none taken draft hs rs = record { yes_all = λ y. y; no_first = λ q m f. f }
+    ∙ ap (λ w. draft h w ∷ rest taken draft hs rs (i + 1)) (sym o.rows)
 
 pub led_more : {T R : Type 0} (taken : T → ℕ) (draft : T → List R → Draft) (hs : List T) (rs : List R) (i : ℕ) (h : T) (own : List R) → OwnOf taken hs rs i h own → Found (draft h own) None → Led taken draft hs rs i → Led taken draft hs rs (i + 1)
 led_more taken draft hs rs i h own o found led =
@@ -58,10 +56,6 @@ blamed d q i more =
 pub led_no : {T R : Type 0} (taken : T → ℕ) (draft : T → List R → Draft) (hs : List T) (rs : List R) (i : ℕ) (h : T) (own : List R) (q : Question) → OwnOf taken hs rs i h own → Found (draft h own) (Some q) → Led taken draft hs rs i → FirstNo (asked_from 0 (drafts taken draft hs rs)) q i
 led_no taken draft hs rs i h own q o f led =
     led.no_first q i (subst (λ w. FirstNo (asked_from i w) q i) (sym (rest_more taken draft hs rs i h own o)) (blamed (draft h own) q i (asked_from (suc i) (rest taken draft hs rs (i + 1))) f))
-
-pub led_all : {T R : Type 0} (taken : T → ℕ) (draft : T → List R → Draft) (hs : List T) (rs : List R) (i : ℕ) → length hs ≤ i → Led taken draft hs rs i → AllYes (asked_from 0 (drafts taken draft hs rs))
-led_all taken draft hs rs i h led =
-    led.yes_all (subst (λ w. AllYes (asked_from i (drafts taken draft w (drop (start taken hs i) rs)))) (sym (drop_all i hs h)) tt)
 
 same_refusal : (f g : Refusal) → f.question ≡ g.question → f.head ≡ g.head → f ≡ g
 same_refusal f g a b = ap (λ (q : Question). record { question = q; head = f.head }) a ∙ ap (λ (n : ℕ). record { question = g.question; head = n }) b

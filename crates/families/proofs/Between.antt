@@ -1,19 +1,17 @@
 -- Ordinates at and between stations.
-use Rattle.std.proofs.Common.{◌≡◌, ℕ, suc, ◌+◌, ◌-◌, ◌*◌, ◌/◌, ◌%◌, ◌<◌, ◌≤◌, ◌⊎◌, List, get_or, ℤ, pos, ◌+ℤ◌, ◌*ℤ◌, nat_abs, ap, ◌∙◌, inl, inr, ⊎_elim, mod-lt, add-mul, mul-le-mul_left, zero-mul, mul-suc, arith}
+use Rattle.std.proofs.Common.{◌≡◌, ℕ, suc, ◌+◌, ◌-◌, ◌*◌, ◌/◌, ◌%◌, ◌<◌, ◌≤◌, List, get_or, ℤ, pos, ◌+ℤ◌, ◌*ℤ◌, nat_abs, ap, ◌∙◌, ⊎_elim, mod-lt, length, Bool, true, false, MatchBool, Decides, refl, add-mul, mul-le-mul_left, zero-mul, mul-suc, arith}
 use native.Mathlib.Nat.{mul-mod_right, mul-div_right, div-add-mod}
 use borrow.Author.Differences.{ints}
-use Rattle.std.proofs.lemmas.Bool.{cases_lt}
+use Rattle.std.specs.List.{AllWithin, HoldsAt}
+use Rattle.std.proofs.lemmas.Bool.{cases_lt, false≢true}
 use Rattle.families.specs.Stations.{between}
 use Rattle.lines.proofs.Products.{abs_product}
-
-cases_le : (a b : ℕ) → (a ≤ b) ⊎ (b < a)
-cases_le a b = ⊎_elim inr inl (cases_lt b a)
 
 -- where x falls between the stations
 place_suc : (d m x : ℕ) → x ≤ d * m → 1 ≤ d → (x / d ≤ m) × (0 < x % d → x / d < m)
 place_suc d m x within low =
     let e = div-add-mod x d in (
-      ⊎_elim (λ h. h) (λ h. let k : d * suc m ≤ d * (x / d) = mul-le-mul_left d h in let s = mul-suc d m in absurd (omega arith)) (cases_le (x / d) m),
+      ⊎_elim (λ h. let k : d * suc m ≤ d * (x / d) = mul-le-mul_left d h in let s = mul-suc d m in absurd (omega arith)) (λ h. h) (cases_lt m (x / d)),
       λ r. ⊎_elim (λ h. h) (λ h. let k : d * m ≤ d * (x / d) = mul-le-mul_left d h in absurd (omega arith)) (cases_lt (x / d) m),
     )
 
@@ -74,3 +72,8 @@ station_large d m ys n j low lt big all =
     let p = all (d * j) k in
     let e = at_station d ys j low in
     big (omega arith)
+
+-- whether all stations are small decides whether all ordinates are
+pub decided_at_stations : (d m : ℕ) (ys : List ℤ) (r : Bool) → 1 ≤ d → 2 ≤ length ys → MatchBool r (AllWithin (λ y. d * nat_abs y ≤ m) ys 0 (length ys)) ((k : ℕ) × (k < length ys) × HoldsAt (λ y. d * nat_abs y ≤ m → ⊥) ys k) → Decides r ((x : ℕ) → x ≤ d * (length ys - 1) → nat_abs (between d ys x) ≤ m)
+decided_at_stations d m ys true low two all = (λ _ x within. between_small d m ys (length ys) x low two within (λ j there. all j (pos 0) (omega arith) there), λ _. refl)
+decided_at_stations d m ys false low two one = (λ e. absurd (false≢true e), λ small. absurd (station_large d m ys (length ys) one.0 low one.1 (one.2 (pos 0)) small))

@@ -1,8 +1,8 @@
 -- The ordinates of runs: at the end of each run, on the way to it, and how large they are.
-use Rattle.std.proofs.Common.{◌≡◌, ℕ, zero, suc, ◌+◌, ◌-◌, ◌*◌, ◌<◌, ◌≤◌, List, [], ◌∷◌, length, get_or, take, ℤ, pos, negsuc, ◌+ℤ◌, ◌*ℤ◌, nat_abs, sum_by, sym, ap, ◌∙◌, subst, ⊎_elim, le_of_suc-le-suc, not-suc-le-zero, add-zero, add-suc, mul-le-mul_right, zero-add, arith}
+use Rattle.std.proofs.Common.{◌≡◌, ℕ, zero, suc, ◌+◌, ◌-◌, ◌*◌, ◌<◌, ◌≤◌, List, [], ◌∷◌, length, get_or, take, ℤ, pos, negsuc, ◌+ℤ◌, ◌*ℤ◌, nat_abs, sym, ap, ◌∙◌, subst, ⊎_elim, le_of_suc-le-suc, not-suc-le-zero, add-zero, add-suc, mul-le-mul_right, zero-add, arith}
 use lib.IntN.{zero-*ℤ, suc_ℤ-*ℤ}
 use borrow.Author.Differences.{ints}
-use Rattle.std.proofs.lemmas.List.Sums.{sum_by-cons, sum_by_more, sum_by-take-le}
+use Rattle.std.proofs.lemmas.List.Sums.{sum_by-cons, sum_by_more}
 use Rattle.std.proofs.lemmas.Bool.{cases_lt, cond-true, cond-false, lt-ltb, le-ltb}
 use Rattle.families.specs.declared.rows.Run.{Run}
 use Rattle.families.specs.Runs.{run_size, rise_at, climb, no_run}
@@ -34,22 +34,16 @@ even : (y r : ℤ) (t n m : ℕ) → t ≤ n → nat_abs y ≤ m → nat_abs (y 
 even y (pos c) t n m h p q = let k : t * c ≤ n * c = mul-le-mul_right c h in omega (arith, ints)
 even y (negsuc c) t n m h p q = let k : t * suc c ≤ n * suc c = mul-le-mul_right (suc c) h in omega (arith, ints)
 
--- where run k + 1 begins
-pub run_end : (rs : List Run) (k : ℕ) → k < length rs → start run_size rs (k + 1) ≡ start run_size rs k + run_size (get_or rs k no_run)
-run_end rs k h = sum_by_more run_size rs k no_run h
-
-pub run_high : (rs : List Run) (k : ℕ) → k < length rs → start run_size rs k + run_size (get_or rs k no_run) ≤ sum_by run_size rs
-run_high rs k h = let e = run_end rs k h in let p = sum_by-take-le run_size rs (k + 1) in omega arith
-
+-- the ordinate at the end of run k
 pub climb_end : (rs : List Run) (k : ℕ) → k < length rs → climb rs (start run_size rs (k + 1)) ≡ climb rs (start run_size rs k) +ℤ pos (run_size (get_or rs k no_run)) *ℤ (get_or rs k no_run).rise
-climb_end rs k h = ap (climb rs) (run_end rs k h) ∙ climb_at rs k (run_size (get_or rs k no_run)) h (omega arith)
+climb_end rs k h = ap (climb rs) (sum_by_more run_size rs k no_run h) ∙ climb_at rs k (run_size (get_or rs k no_run)) h (omega arith)
 
 pub climb_more : (rs : List Run) (k m : ℕ) → k < length rs → ((x : ℕ) → x ≤ start run_size rs k → nat_abs (climb rs x) ≤ m) → nat_abs (climb rs (start run_size rs (k + 1))) ≤ m → (x : ℕ) → x ≤ start run_size rs (k + 1) → nat_abs (climb rs x) ≤ m
 climb_more rs k m h before end x l =
     let s = start run_size rs k in
     let n = run_size (get_or rs k no_run) in
     let r = (get_or rs k no_run).rise in
-    let e = run_end rs k h in
+    let e = sum_by_more run_size rs k no_run h in
     ⊎_elim
     (λ a. before x (omega arith))
     (λ a.

@@ -1,13 +1,31 @@
--- A family that is made of heads and rows keeps that every question is answered yes.
+-- What drafted lines keep, in the words of stations and in those of runs.
+use Rattle.std.proofs.Common.{ℤ}
 use Rattle.lines.specs.Asks.{AllYes}
-use Rattle.families.specs.Stations.{station_draft, station_questions, no_station_head}
-use Rattle.families.specs.Runs.{run_draft, run_questions, no_run_head}
-use Rattle.families.specs.declared.runs.Runs.{Runs}
-use Rattle.families.specs.declared.stations.Stations.{Stations}
-use Rattle.families.proofs.Finding.{yes_of}
+use Rattle.lines.specs.Lines.{Limits}
+use Rattle.families.specs.contracts.station_head.StationHeadHead.TheImpl as by_stations
+use Rattle.families.specs.contracts.run_head.RunHeadHead.TheImpl as by_runs
+use Rattle.families.specs.declared.drafted_lines.DraftedLines.{DraftedLines}
+use Rattle.families.specs.declared.rows.StationHead.{StationHead}
+use Rattle.families.specs.declared.rows.RunHead.{RunHead}
+use Rattle.families.specs.declared.rows.Run.{Run}
+use Rattle.families.specs.DraftLimits.{found_each}
+use Rattle.families.specs.Stations.{no_station_head, station_draft, station_questions, station_lines, station_limits}
+use Rattle.families.specs.Runs.{no_run_head, run_draft, run_questions, run_lines, run_limits}
 
-pub stations_yes : (s : Stations) → AllYes (station_questions s.heads.now s.ordinates.now)
-stations_yes s = yes_of (λ h. h.stations) station_draft s.heads.now s.ordinates.now no_station_head s.counted s.scaled s.sized s.bounded
+pub stations_yes : (s : DraftedLines StationHead ℤ by_stations.ghosts) → AllYes (station_questions s.heads.now s.rows.now)
+stations_yes s = s.right
 
-pub runs_yes : (s : Runs) → AllYes (run_questions s.heads.now s.runs.now)
-runs_yes s = yes_of (λ h. h.runs) run_draft s.heads.now s.runs.now no_run_head s.counted s.scaled (λ i h. ((s.some i h, s.long i h), s.short i h)) s.bounded
+pub stations_limits : (s : DraftedLines StationHead ℤ by_stations.ghosts) → Limits (station_lines s.heads.now s.rows.now)
+stations_limits s =
+    let y = stations_yes s in
+    let f = found_each (λ h. h.stations) station_draft s.heads.now s.rows.now 0 no_station_head y.1 in
+    station_limits s.heads.now s.rows.now y.0 (λ i h. (f i h).0) (λ i h. (f i h).1) (λ i h. (f i h).2)
+
+pub runs_yes : (s : DraftedLines RunHead Run by_runs.ghosts) → AllYes (run_questions s.heads.now s.rows.now)
+runs_yes s = s.right
+
+pub runs_limits : (s : DraftedLines RunHead Run by_runs.ghosts) → Limits (run_lines s.heads.now s.rows.now)
+runs_limits s =
+    let y = runs_yes s in
+    let f = found_each (λ h. h.runs) run_draft s.heads.now s.rows.now 0 no_run_head y.1 in
+    run_limits s.heads.now s.rows.now y.0 (λ i h. (f i h).0) (λ i h. (f i h).1) (λ i h. (f i h).2)

@@ -1,6 +1,5 @@
-pub mod Starts
 pub mod Asked
 pub mod Finding
 pub mod Between
-pub mod Kept
 pub mod Climbing
+pub mod Kept

@@ -1,10 +1,13 @@
 -- The lines of drafts, one by one, and that they keep the limits of a family where every question is answered yes.
-use Rattle.std.specs.Prelude.{◌≡◌, ℕ, zero, suc, ◌<◌, ◌≤◌, List, [], ◌∷◌, length, take, drop, slice_index_or, refl}
+use Rattle.std.specs.Prelude.{◌≡◌, ℕ, zero, suc, ◌<◌, ◌≤◌, List, [], ◌∷◌, length, take, drop, None, slice_index_or, refl}
 use Rattle.std.proofs.Common.{sym, ap, ◌∙◌, subst, le_of_suc-le-suc, not-suc-le-zero, arith}
 use Rattle.std.proofs.lemmas.List.Sums.{sum_by-cons}
 use Rattle.std.proofs.lemmas.List.{drop-drop}
+use Rattle.std.specs.Coded.{×_prop, Π_prop, Unit-prop, le_prop}
+use Rattle.std.proofs.Math.Nat.{ℕ_set}
+use Rattle.lines.specs.Asks.{AllYes}
 use Rattle.lines.specs.Lines.{no_line, Fair, Limits}
-use Rattle.families.specs.Drafts.{Draft, drafts, lines_of, Counted, Scaled, Sized, Bounded}
+use Rattle.families.specs.Drafts.{Draft, drafts, lines_of, asked_from, questions, Counted, Found, Scaled, Sized, Bounded}
 use Rattle.families.specs.Own.{start, own, Each}
 
 pub length_lines : {T R : Type 0} (taken : T → ℕ) (draft : T → List R → Draft) (hs : List T) (rs : List R) → length (lines_of (drafts taken draft hs rs)) ≡ length hs
@@ -38,3 +41,26 @@ draft_limits taken draft hs rs d long counted scaled sized bounded = record {
       scale_high = (scaled i k).1;
       small = bounded i k;
     }
+
+-- each head is found right where every question is answered yes
+pub found_each : {T R : Type 0} (taken : T → ℕ) (draft : T → List R → Draft) (hs : List T) (rs : List R) (n : ℕ) (d : T) → AllYes (asked_from n (drafts taken draft hs rs)) → Each taken (λ h rows. Found (draft h rows) None) hs rs d
+found_each taken draft [] rs n d y i h = absurd (not-suc-le-zero h)
+found_each taken draft (x ∷ hs) rs n d y zero h = (y.0, y.1.0, y.1.1.0)
+found_each taken draft (x ∷ hs) rs n d y (suc i) h =
+    subst (λ rows. Found (draft (slice_index_or hs i d) rows) None) (own_cons taken x hs rs i d) (found_each taken draft hs (drop (taken x) rs) (suc n) d y.1.1.1 i (le_of_suc-le-suc h))
+
+-- the same limits, where every question is answered yes
+pub limits_of_yes : {T R : Type 0} (taken : T → ℕ) (draft : T → List R → Draft) (hs : List T) (rs : List R) → ((h : T) (rows : List R) → Scaled (draft h rows) → Sized (draft h rows) → 1 ≤ (draft h rows).line.len) → AllYes (questions taken draft hs rs) → Limits (lines_of (drafts taken draft hs rs))
+limits_of_yes taken draft [] rs long y = record { few = omega arith; fair = λ i h. absurd (not-suc-le-zero h) }
+limits_of_yes taken draft (x ∷ hs) rs long y =
+    let f = found_each taken draft (x ∷ hs) rs 0 x y.1 in
+    draft_limits taken draft (x ∷ hs) rs x long y.0 (λ i h. (f i h).0) (λ i h. (f i h).1) (λ i h. (f i h).2)
+
+-- there is one proof at most that every question is answered yes, where there is one at most that a draft has rows enough
+asked_from-prop : {T R : Type 0} (taken : T → ℕ) (draft : T → List R → Draft) (once : (h : T) (rows : List R) → IsProp (draft h rows).enough) (n : ℕ) (hs : List T) (rs : List R) → IsProp (AllYes (asked_from n (drafts taken draft hs rs)))
+asked_from-prop taken draft once n [] rs = Unit-prop
+asked_from-prop taken draft once n (h ∷ hs) rs =
+    ×_prop (×_prop le_prop le_prop) (×_prop (×_prop (once h (take (taken h) rs)) le_prop) (×_prop (Π_prop λ _. Π_prop λ _. le_prop) (asked_from-prop taken draft once (suc n) hs (drop (taken h) rs))))
+
+pub AllYes-prop : {T R : Type 0} (taken : T → ℕ) (draft : T → List R → Draft) (once : (h : T) (rows : List R) → IsProp (draft h rows).enough) (hs : List T) (rs : List R) → IsProp (AllYes (questions taken draft hs rs))
+AllYes-prop taken draft once hs rs = ×_prop (×_prop le_prop (ℕ_set _ _)) (asked_from-prop taken draft once 0 hs rs)

@@ -43,6 +43,10 @@ drafts taken draft (h ∷ hs) rs = draft h (take (taken h) rs) ∷ drafts taken 
 abbrev pub lines_of : List Draft → List Line
 lines_of ds = map (λ d. d.line) ds
 
+-- The lines that heads draft from rows.
+abbrev pub drafted_lines : {T R : Type 0} → (T → ℕ) → (T → List R → Draft) → List T → List R → List Line
+drafted_lines taken draft hs rs = lines_of (drafts taken draft hs rs)
+
 -- Are there at most 16 heads, and do their counts add up to the rows given?
 abbrev pub Counted : {T R : Type 0} → (T → ℕ) → List T → List R → Type 0
 Counted taken hs rs = (length hs ≤ 16) × (sum_by taken hs ≡ length rs)

@@ -1,4 +1,5 @@
 pub mod Drafts
+pub mod Refusals
 pub mod Stations
 pub mod Runs
 pub mod Own

@@ -54,11 +54,12 @@ run_lines hs rs = lines_of (run_drafts hs rs)
 abbrev pub run_questions : List RunHead → List Run → Asks Question
 run_questions hs rs = questions (λ h. h.runs) run_draft hs rs
 
+-- a line of a run that is not shorter than 1 is at least a millimetre long
+pub run_long : (h : RunHead) (rs : List Run) → Scaled (run_draft h rs) → Sized (run_draft h rs) → 1 ≤ (run_draft h rs).line.len
+run_long h rs scaled sized =
+    let first = sized.0.1 0 sized.0.0 in
+    let all = get_or-le-sum_by run_size rs 0 no_run sized.0.0 in
+    omega arith
+
 pub run_limits : (hs : List RunHead) (rs : List Run) → Counted (λ h. h.runs) hs rs → Each (λ h. h.runs) (λ h rs. Scaled (run_draft h rs)) hs rs no_run_head → Each (λ h. h.runs) (λ h rs. Sized (run_draft h rs)) hs rs no_run_head → Each (λ h. h.runs) (λ h rs. Bounded (run_draft h rs)) hs rs no_run_head → Limits (run_lines hs rs)
-run_limits hs rs = draft_limits (λ h. h.runs) run_draft hs rs no_run_head long
-  where
-    long : (h : RunHead) (rs : List Run) → Scaled (run_draft h rs) → Sized (run_draft h rs) → 1 ≤ (run_draft h rs).line.len
-    long h rs scaled sized =
-        let first = sized.0.1 0 sized.0.0 in
-        let all = get_or-le-sum_by run_size rs 0 no_run sized.0.0 in
-        omega arith
+run_limits hs rs = draft_limits (λ h. h.runs) run_draft hs rs no_run_head run_long

@@ -32,8 +32,9 @@ station_lines hs ys = lines_of (station_drafts hs ys)
 abbrev pub station_questions : List StationHead → List ℤ → Asks Question
 station_questions hs ys = questions (λ h. h.stations) station_draft hs ys
 
+-- a line of two stations and a step is at least a millimetre long
+pub station_long : (h : StationHead) (ys : List ℤ) → Scaled (station_draft h ys) → Sized (station_draft h ys) → 1 ≤ (station_draft h ys).line.len
+station_long h ys scaled sized = let two = sized.0 in let steps : 1 ≤ length ys - 1 = omega arith in mul-le-mul scaled.0 steps
+
 pub station_limits : (hs : List StationHead) (ys : List ℤ) → Counted (λ h. h.stations) hs ys → Each (λ h. h.stations) (λ h ys. Scaled (station_draft h ys)) hs ys no_station_head → Each (λ h. h.stations) (λ h ys. Sized (station_draft h ys)) hs ys no_station_head → Each (λ h. h.stations) (λ h ys. Bounded (station_draft h ys)) hs ys no_station_head → Limits (station_lines hs ys)
-station_limits hs ys = draft_limits (λ h. h.stations) station_draft hs ys no_station_head long
-  where
-    long : (h : StationHead) (ys : List ℤ) → Scaled (station_draft h ys) → Sized (station_draft h ys) → 1 ≤ (station_draft h ys).line.len
-    long h ys scaled sized = let two = sized.0 in let steps : 1 ≤ length ys - 1 = omega arith in mul-le-mul scaled.0 steps
+station_limits hs ys = draft_limits (λ h. h.stations) station_draft hs ys no_station_head station_long

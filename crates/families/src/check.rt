@@ -1,32 +1,27 @@
-//! The questions in their order, and the lines of heads and rows that are answered yes.
-ghost use Rattle.std.specs.Prelude.{◌≡◌, ℕ, ◌+◌, ◌^◌, ◌<◌, ◌≤◌, length, take, drop, Decides, sum_by};
+//! The questions in their order, and the rows of heads.
+ghost use Rattle.std.specs.Prelude.{◌≡◌, ℕ, ◌+◌, ◌≤◌, length, take, drop, Decides, sum_by};
 ghost use Rattle.families.specs.Drafts.{Counted, Tells, questions};
-ghost use Rattle.families.specs.Own.{start};
 
 use crate::head::Head;
 use crate::questions::{Question, Refusal};
+
+// How many rows heads take, at most 16 of them.
+pub(crate) fn rows_of<T: Head>(heads: &[T]) -> u64
+    requires { length heads.now ≤ 16 }
+    ensures { result ≡ sum_by T.taken heads.now }
+{
+    let mut sum = 0;
+    for head in heads {
+        sum += u64::from(head.taken());
+    }
+    sum
+}
 
 // Whether there are at most 16 heads and their counts add up to the rows.
 fn adds_up<T: Head>(heads: &[T], rows: &[T::Row]) -> bool
     ensures { Decides result (Counted T.taken heads.now rows.now) }
 {
-    if heads.len() > 16 {
-        return false;
-    }
-    let mut sum: u64 = 0;
-    for k in 0..heads.len() {
-        sum += heads[k].taken() as u64;
-    }
-    sum == rows.len() as u64
-}
-
-// The rows of a head, the first of which stands at `at`.
-pub(crate) fn own_rows<'a, T: Head>(head: &T, rows: &'a [T::Row], at: usize) -> &'a [T::Row]
-    requires { at + T.taken head.now ≤ length rows.now }
-    ensures { result.now ≡ take (T.taken head.now) (drop at rows.now) }
-{
-    let end = at + head.taken() as usize;
-    &rows[at..end]
+    heads.len() <= 16 && rows_of(heads) == rows.len() as u64
 }
 
 // The questions in their order, and the first no.
@@ -39,28 +34,16 @@ pub(crate) fn ask<T: Head>(heads: &[T], rows: &[T::Row]) -> Result<(), Refusal>
             head: 0,
         });
     }
-    let mut at: usize = 0;
-    for i in 0..heads.len() {
-        let head = &heads[i];
-        if let Some(question) = head.first_no(own_rows(head, rows, at)) {
+    let mut rest = rows;
+    for (i, head) in heads.iter().enumerate() {
+        let (own, more) = rest.split_at(head.taken() as usize);
+        if let Some(question) = head.first_no(own) {
             return Err(Refusal {
                 question,
                 head: i as u32,
             });
         }
-        at += head.taken() as usize;
+        rest = more;
     }
     Ok(())
-}
-
-// Where the rows of head i begin.
-pub(crate) fn start_of<T: Head>(heads: &[T], i: usize) -> usize
-    requires { (i ≤ length heads.now) × (sum_by T.taken heads.now < 2 ^ 64) }
-    ensures { result ≡ start T.taken heads.now i }
-{
-    let mut at: usize = 0;
-    for k in 0..i {
-        at += heads[k].taken() as usize;
-    }
-    at
 }

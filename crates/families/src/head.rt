@@ -1,12 +1,12 @@
 //! What a head drafts from its rows.
 ghost use Rattle.std.specs.Prelude.{◌≡◌, ℕ, ◌≤◌, List, pos, None};
 ghost use Rattle.lines.specs.Lines.{ordinate_or_zero};
-ghost use Rattle.families.specs.Drafts.{Draft, Found};
+ghost use Rattle.families.specs.Drafts.{Draft, Found, Scaled, Sized};
 
 use crate::questions::Question;
 
 /// A head takes some rows as its own, and drafts an influence line from them.
-pub(crate) trait Head {
+pub trait Head {
     type Row;
 
     // How many rows are its own.
@@ -14,6 +14,12 @@ pub(crate) trait Head {
 
     // What it drafts from them.
     ghost draft: { Self → List Self.Row → Draft };
+
+    // There is one proof at most that a draft has rows enough.
+    ghost enough_prop: { (head : Self) (own : List Self.Row) → IsProp (draft head own).enough };
+
+    // A line of rows enough is at least a millimetre long.
+    ghost long: { (head : Self) (own : List Self.Row) → Scaled (draft head own) → Sized (draft head own) → 1 ≤ (draft head own).line.len };
 
     /// How many rows are its own.
     fn taken(&self) -> u32

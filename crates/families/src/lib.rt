@@ -2,7 +2,7 @@
 #![tactic(auto)]
 
 mod check;
-mod find;
+mod drafted_lines;
 mod head;
 mod ordinates;
 pub mod questions;

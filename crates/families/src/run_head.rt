@@ -1,8 +1,8 @@
 //! What a head of runs drafts: the ordinate climbs by the rise at each millimetre of a run.
-ghost use Rattle.std.specs.Prelude.{◌≡◌, ℕ, ◌+◌, ◌<◌, ◌≤◌, length, pos, Decides, sum_by, slice_index_or, unsigned_abs};
+ghost use Rattle.std.specs.Prelude.{◌≡◌, ℕ, ◌≤◌, length, pos, ◌+ℤ◌, ◌*ℤ◌, Decides, sum_by, unsigned_abs};
+ghost use Rattle.std.specs.Coded.{×_prop, Π_prop, le_prop};
 ghost use Rattle.lines.specs.Lines.{ordinate_or_zero};
-ghost use Rattle.families.specs.Runs.{run_size, run_line, run_draft, climb, no_run, Rowed};
-ghost use Rattle.families.specs.Own.{start};
+ghost use Rattle.families.specs.Runs.{run_size, run_line, run_draft, run_long, climb, Rowed};
 
 use crate::head::Head;
 use crate::ordinates::{keeps_limits, times};
@@ -14,11 +14,15 @@ impl Run {
     fn size(&self) -> u32
         ensures { result ≡ run_size self.now }
     {
-        if self.length < 0 {
-            0
-        } else {
-            self.length as u32
-        }
+        u32::try_from(self.length).unwrap_or(0)
+    }
+
+    // The ordinate n millimetres into the run, where y is that at its beginning.
+    fn climbed(&self, y: i64, n: u32) -> i64
+        requires { unsigned_abs y ≤ 1000000 }
+        ensures { result ≡ y +ℤ pos n *ℤ self.now.rise }
+    {
+        y + times(n, self.rise)
     }
 }
 
@@ -26,10 +30,11 @@ impl Run {
 fn is_line(runs: &[Run]) -> bool
     ensures { Decides result (Rowed runs.now × (sum_by run_size runs.now ≤ 100000)) }
 {
-    let mut end: u64 = 0;
+    // The sum of all lengths may not fit, so the loop stops past 100,000.
+    let mut end = 0;
     for run in runs {
         let len = run.size();
-        end += len as u64;
+        end += u64::from(len);
         if len < 1 || end > 100_000 {
             return false;
         }
@@ -42,28 +47,16 @@ fn end_of(runs: &[Run]) -> u32
     requires { sum_by run_size runs.now ≤ 100000 }
     ensures { result ≡ sum_by run_size runs.now }
 {
-    let mut end: u32 = 0;
-    for run in runs {
-        end += run.size();
-    }
-    end
-}
-
-// The ordinate n millimetres into run k, where y is that at its beginning.
-fn on_run(runs: &[Run], k: usize, y: i64, n: u32) -> i64
-    requires { (k < length runs.now) × ((n ≤ run_size (slice_index_or runs.now k no_run)) × ((y ≡ climb runs.now (start run_size runs.now k)) × (unsigned_abs y ≤ 1000000))) }
-    ensures { result ≡ climb runs.now (start run_size runs.now k + n) }
-{
-    y + times(n, runs[k].rise)
+    runs.iter().map(|run| run.size()).sum()
 }
 
 // Whether every ordinate keeps its limits: those at the ends of the runs decide.
 fn is_bounded(runs: &[Run]) -> bool
     ensures { Decides result ((x : ℕ) → x ≤ sum_by run_size runs.now → unsigned_abs (climb runs.now x) ≤ 1000000) }
 {
-    let mut y: i64 = 0;
-    for k in 0..runs.len() {
-        y = on_run(runs, k, y, runs[k].size());
+    let mut y = 0;
+    for run in runs {
+        y = run.climbed(y, run.size());
         if !keeps_limits(y) {
             return false;
         }
@@ -72,18 +65,19 @@ fn is_bounded(runs: &[Run]) -> bool
 }
 
 // The ordinate at x, which may lie past the last run.
-fn climbed(runs: &[Run], x: u32) -> i64
-    requires { (1 ≤ length runs.now) × (((x : ℕ) → x ≤ sum_by run_size runs.now → unsigned_abs (climb runs.now x) ≤ 1000000)) }
+fn ordinate_at(runs: &[Run], x: u32) -> i64
+    requires some { 1 ≤ length runs.now }
+    requires small { (x : ℕ) → x ≤ sum_by run_size runs.now → unsigned_abs (climb runs.now x) ≤ 1000000 }
     ensures { result ≡ ordinate_or_zero (run_line 1 runs.now) (pos x) }
 {
-    let mut y: i64 = 0;
+    let mut y = 0;
     let mut left = x;
-    for k in 0..runs.len() {
-        let n = runs[k].size();
+    for run in runs {
+        let n = run.size();
         if left <= n {
-            return on_run(runs, k, y, left);
+            return run.climbed(y, left);
         }
-        y = on_run(runs, k, y, n);
+        y = run.climbed(y, n);
         left -= n;
     }
     0
@@ -96,12 +90,16 @@ impl Head for RunHead {
 
     ghost draft = { run_draft };
 
+    ghost enough_prop = { λ head own. ×_prop le_prop (Π_prop (λ k. Π_prop (λ _. le_prop))) };
+
+    ghost long = { run_long };
+
     fn taken(&self) -> u32 {
         self.runs
     }
 
     fn first_no(&self, own: &[Run]) -> Option<Question> {
-        if self.scale < 1 || self.scale > 1_000 {
+        if !(1..=1_000).contains(&self.scale) {
             Some(Question::Scale)
         } else if !is_line(own) {
             Some(Question::Length)
@@ -113,18 +111,17 @@ impl Head for RunHead {
     }
 
     fn length(&self, own: &[Run]) -> i64 {
-        end_of(own) as i64
+        i64::from(end_of(own))
     }
 
-    fn scale(&self, own: &[Run]) -> i64 {
-        let _ = own;
-        self.scale as i64
+    fn scale(&self, _own: &[Run]) -> i64 {
+        i64::from(self.scale)
     }
 
     fn ordinate(&self, own: &[Run], x: i64) -> i64 {
-        if x < 0 || x > 100_000 {
+        if !(0..=100_000).contains(&x) {
             return 0;
         }
-        climbed(own, x as u32)
+        ordinate_at(own, x as u32)
     }
 }

@@ -1,9 +1,12 @@
 //! The figures that were worked out by hand.
+ghost use Rattle.std.specs.Prelude.{◌≤◌, length};
+
 use loads::load_sets::Group;
+use std::fmt;
 use traffic::records::{Code, LaneRecord, Record, Sign};
 
 /// What a hand found of an arrangement of Bk 10 at share 100.
-#[derive(Clone, Copy)]
+#[derive(Clone, Copy, Debug, PartialEq, Eq)]
 pub enum Found {
     Sum(i64),
     Legal,
@@ -11,7 +14,7 @@ pub enum Found {
 }
 
 /// A carriageway, an arrangement on it, and what a hand found.
-#[derive(Clone, Copy)]
+#[derive(Clone, Copy, Debug, PartialEq, Eq)]
 pub struct Figure {
     pub width: i32,
     pub left: bool,
@@ -20,13 +23,44 @@ pub struct Figure {
     pub found: Found,
 }
 
-const BLANK: LaneRecord = LaneRecord {
-    centre: 0,
-    code: Code::Light,
-    a: 0,
-    z: 0,
-    sign: Sign::None,
-};
+/// A lane as it is printed.
+#[derive(Clone, Copy)]
+struct Shown<'a>(&'a LaneRecord);
+
+impl<'a> fmt::Display for Shown<'a> {
+    fn fmt<W: fmt::Write>(&self, f: &mut fmt::Formatter<W>) -> fmt::Result {
+        let lane = self.0;
+        let code = u8::from(lane.code);
+        let sign = i8::from(lane.sign);
+        write!(
+            f,
+            "[centre {} code {code} a {} z {} p {sign}]",
+            lane.centre, lane.a, lane.z
+        )
+    }
+}
+
+impl fmt::Display for Figure {
+    fn fmt<W: fmt::Write>(&self, f: &mut fmt::Formatter<W>) -> fmt::Result {
+        write!(f, "W {} raised {} {}:", self.width, self.left, self.right)?;
+        for lane in self.given.lanes.iter().take(self.given.count as usize) {
+            write!(f, " {}", Shown(lane))?;
+        }
+        Ok(())
+    }
+}
+
+// The record of these lanes.
+fn record_of(given: &[LaneRecord]) -> Record
+    requires { length given.now ≤ 6 }
+{
+    let mut lanes = Record::EMPTY.lanes;
+    lanes[..given.len()].copy_from_slice(given);
+    Record {
+        count: given.len() as u8,
+        lanes,
+    }
+}
 
 // One lane with centre 15 on a carriageway of 30.
 fn alone(code: Code, a: i32, z: i32, sign: Sign, found: Found) -> Figure {
@@ -37,66 +71,43 @@ fn alone(code: Code, a: i32, z: i32, sign: Sign, found: Found) -> Figure {
         z,
         sign,
     };
-    let given = Record {
-        count: 1,
-        lanes: [lane, BLANK, BLANK, BLANK, BLANK, BLANK],
-    };
     Figure {
         width: 30,
         left: false,
         right: false,
-        given,
+        given: record_of(&[lane]),
         found,
+    }
+}
+
+// A lane whose load begins at 0, without p.
+fn plain(centre: i32, code: Code) -> LaneRecord {
+    LaneRecord {
+        centre,
+        code,
+        ..LaneRecord::BLANK
     }
 }
 
 // A heavy lane with centre 13, and a lane beside it.
 fn pair(width: i32, right: bool, centre: i32, code: Code, found: Found) -> Figure {
-    let first = LaneRecord {
-        centre: 13,
-        code: Code::Axles(Group::Single),
-        a: 0,
-        z: 0,
-        sign: Sign::None,
-    };
-    let second = LaneRecord {
-        centre,
-        code,
-        a: 0,
-        z: 0,
-        sign: Sign::None,
-    };
-    let given = Record {
-        count: 2,
-        lanes: [first, second, BLANK, BLANK, BLANK, BLANK],
-    };
+    let heavy = plain(13, Code::Axles(Group::Single));
     Figure {
         width,
         left: true,
         right,
-        given,
+        given: record_of(&[heavy, plain(centre, code)]),
         found,
     }
 }
 
 // A light lane with centre 9 on a carriageway of 30, with the left edge raised or not.
 fn light_at_nine(left: bool) -> Figure {
-    let lane = LaneRecord {
-        centre: 9,
-        code: Code::Light,
-        a: 0,
-        z: 0,
-        sign: Sign::None,
-    };
-    let given = Record {
-        count: 1,
-        lanes: [lane, BLANK, BLANK, BLANK, BLANK, BLANK],
-    };
     Figure {
         width: 30,
         left,
         right: false,
-        given,
+        given: record_of(&[plain(9, Code::Light)]),
         found: Found::Illegal,
     }
 }

@@ -7,14 +7,15 @@ mod hand;
 use families::rows::{Run, RunHead};
 use families::runs::Runs;
 use hand::{Figure, Found, figures};
-use lines::family::Family;
+use lines::influence_lines::InfluenceLine;
+use lines::numbered::Numbered;
 use loads::carriageways::Carriageway;
 use loads::classes::Class;
 use loads::shares::Shares;
 use std::io;
 use traffic::figures::hand_figures;
 use traffic::legal::legal;
-use traffic::records::{LaneRecord, Record};
+use traffic::records::Record;
 use traffic::sums::traffic_sum;
 
 const HEADS: [RunHead; 1] = [RunHead { scale: 1, runs: 2 }];
@@ -27,45 +28,16 @@ const TOOTH: [Run; 2] = [
     },
 ];
 
-fn print_lane(rt: &impl Print, lane: &LaneRecord) -> io::Result<()> {
-    let centre = lane.centre;
-    let code = lane.code.number();
-    let a = lane.a;
-    let z = lane.z;
-    let sign = lane.sign.number();
-    print!(rt; " [centre {centre} code {code} a {a} z {z} p {sign}]")
-}
-
-fn print_arrangement(rt: &impl Print, figure: &Figure) -> io::Result<()> {
-    let width = figure.width;
-    let left = figure.left;
-    let right = figure.right;
-    print!(rt; "W {width} raised {left} {right}:")?;
-    for lane in figure.given.lanes.iter().take(figure.given.count as usize) {
-        print_lane(rt, lane)?;
-    }
-    Ok(())
-}
-
 // The traffic sum of Bk 10 with share 100 at each centre; none where the record is refused.
-fn weighed<F: Family>(tooth: &F, carriageway: &Carriageway, given: &Record) -> Option<i64> {
+fn weighed<L: InfluenceLine>(tooth: &L, carriageway: &Carriageway, given: &Record) -> Option<i64> {
     let percents = [100i32; 121];
     let n = carriageway.deck.width as usize + 1;
-    match Shares::new(carriageway, &percents[0..n]) {
-        Ok(shares) => traffic_sum(
-            tooth,
-            0,
-            &Class::Bk10.load_set(),
-            carriageway,
-            &shares,
-            given,
-        ),
-        Err(_) => None,
-    }
+    let shares = Shares::new(carriageway, &percents[..n]).ok()?;
+    traffic_sum(tooth, &Class::Bk10.load_set(), carriageway, &shares, given)
 }
 
-fn weigh<F: Family>(rt: &impl Print, tooth: &F, figure: &Figure) -> io::Result<()> {
-    print_arrangement(rt, figure)?;
+fn weigh<L: InfluenceLine>(rt: &impl Print, tooth: &L, figure: &Figure) -> io::Result<()> {
+    print!(rt; "{figure}")?;
     let Ok(carriageway) = Carriageway::new(figure.width, figure.left, figure.right) else {
         return println!(rt; " no carriageway");
     };
@@ -82,15 +54,16 @@ fn weigh<F: Family>(rt: &impl Print, tooth: &F, figure: &Figure) -> io::Result<(
 fn try_width(rt: &impl Print, width: i32, raised: bool) -> io::Result<()> {
     match Carriageway::new(width, raised, raised) {
         Ok(_) => println!(rt; "W {width} raised {raised} {raised}: a carriageway"),
-        Err(question) => {
-            let number = question.number();
-            println!(rt; "W {width} raised {raised} {raised}: none, question {number}")
-        }
+        Err(question) => println!(rt; "W {width} raised {raised} {raised}: none, {question}"),
     }
 }
 
 fn main(rt: HostRuntime) -> io::Result<()> {
-    let tooth = Runs::make(&HEADS, &TOOTH);
+    let family = Runs::make(&HEADS, &TOOTH);
+    let tooth = Numbered {
+        family: &family,
+        number: 0,
+    };
     let count = hand_figures();
     println!(rt; "{count} figures for Bk 10 on the tooth, share 100")?;
     for figure in figures().iter() {

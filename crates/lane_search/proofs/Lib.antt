@@ -1,6 +1,6 @@
 pub mod Sampled
 pub mod Sets
-pub mod Totals
+pub mod RunningSums
 pub mod Rows
 pub mod Pairs
 pub mod PastLine

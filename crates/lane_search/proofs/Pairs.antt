@@ -12,26 +12,15 @@ use Rattle.lines.specs.Cells.{areas, block, clip}
 use Rattle.lines.proofs.Products.{product_small}
 use Rattle.lines.proofs.UnderCells.{clip_high}
 use Rattle.lane_search.specs.declared.block_loads.BlockLoad.{BlockLoad}
-use Rattle.lane_search.specs.Blocks.{Moderate, Weighted, beside, rest, laden, On, Begun}
+use Rattle.lane_search.specs.Blocks.{Weighted, beside, rest, laden, On, Begun}
 use Rattle.lane_search.specs.Gains.{gains, Running, between, Sized}
-use Rattle.lane_search.specs.Reach.{Peak, Fulls}
-use Rattle.lane_search.proofs.Rows.{in_row, row_moved}
+use Rattle.lane_search.specs.Reach.{Peak, Windowed}
 use Rattle.lane_search.proofs.Sets.{under_alike, under_outside}
-use Rattle.lane_search.proofs.Totals.{between_is}
+use Rattle.lane_search.proofs.RunningSums.{between_is}
 
 -- The places on the block of n mm that begins at a.
 abbrev Here : ℕ → ℤ → (ℤ × ℤ) → Type 0
 Here n a x = (x.0 ≡ a) × Between a (a +ℤ pos (n + 1)) x.1
-
--- What the loop over the starts keeps.
-abbrev pub Scanning : (ℤ → ℤ → Bool) → Line → BlockLoad → List ℤ → ℕ → ℤ → ℤ → ℤ → Type 0
-Scanning beyond l b vs at start s p =
-    Begun beyond l b start s p
-    × (negsuc 15998 ≤ℤ start)
-    × (start ≤ℤ pos 100001)
-    × (at < length vs)
-    × (length vs ≡ b.length + 1)
-    × Fulls beyond l (start -ℤ pos (at + 1)) (length vs) vs
 
 -- the sum where the block begins at a and the axle stands on an ordinate v
 abbrev with_top : (ℤ → ℤ → Bool) → Line → BlockLoad → ℤ → ℤ → ℤ
@@ -47,7 +36,7 @@ module _ {beyond : ℤ → ℤ → Bool} (o : Order beyond) (l : Line) (b : Bloc
         rw (e, h.0) (o.shift (pos b.extra *ℤ ordinate_or_zero l x.1) (pos b.extra *ℤ v) (rest beyond l b a) ∙ m);
   }
 
-  pair_first : (s v p : ℤ) → Peak beyond l (negsuc 15999) (negsuc 15999 +ℤ pos (b.length + 1)) v → s ≡ with_top beyond l b (negsuc 15999) v → p ≡ negsuc 15999 → Begun beyond l b (negsuc 15998) s p
+  pub pair_first : (s v p : ℤ) → Peak beyond l (negsuc 15999) (negsuc 15999 +ℤ pos (b.length + 1)) v → s ≡ with_top beyond l b (negsuc 15999) v → p ≡ negsuc 15999 → Begun beyond l b (negsuc 15998) s p
   pair_first s v p f es ep =
       let w = here (negsuc 15999) f.place v s f.furthest es in
       rw ep record {
@@ -74,29 +63,12 @@ module _ {beyond : ℤ → ℤ → Bool} (o : Order beyond) (l : Line) (b : Bloc
       both true = refl
       both false = refl
 
-  pub scan_first : (vs : List ℤ) (at : ℕ) (s p : ℤ) → at < length vs → length vs ≡ b.length + 1 → Fulls beyond l (negsuc 15999 -ℤ pos at) (length vs) vs →
-      s ≡ with_top beyond l b (negsuc 15999) (get_or vs at (pos 0)) → p ≡ negsuc 15999 → Scanning beyond l b vs at (negsuc 15998) s p
-  scan_first vs at s p lt len full es ep = (
-    pair_first s (get_or vs at (pos 0)) p (in_row beyond l b.length at (negsuc 15999) vs full lt len) es ep,
-    omega (arith, ints),
-    omega (arith, ints),
-    lt,
-    len,
-    row_moved beyond l _ _ _ _ (omega (arith, ints)) full,
-  )
-
-  pub scan_turn : (vs vs' : List ℤ) (at at' : ℕ) (i j s s' new p p' : ℤ) → Scanning beyond l b vs at i s p → i ≤ℤ pos 100000 → j ≡ i +ℤ pos 1 →
-      at' < length vs' → length vs' ≡ b.length + 1 → Fulls beyond l (i -ℤ pos at') (length vs') vs' →
-      new ≡ with_top beyond l b i (get_or vs' at' (pos 0)) → s' ≡ further_of beyond new s new s → p' ≡ further_of beyond new s i p →
-      Scanning beyond l b vs' at' j s' p'
-  scan_turn vs vs' at at' i j s s' new p p' inv le ej lt len full en es ep = (
-    pair_turn i j s s' new (get_or vs' at' (pos 0)) p p' inv.0 (omega (arith, ints)) ej (in_row beyond l b.length at' i vs' full lt len) en es ep,
-    omega (arith, ints),
-    omega (arith, ints),
-    lt,
-    len,
-    row_moved beyond l _ _ _ _ (omega (arith, ints)) full,
-  )
+  -- one more start of a row
+  pub row_turn : (vs : List ℤ) (a i s s' new p p' : ℤ) (k : ℕ) → Begun beyond l b (a +ℤ pos k) s p → Windowed beyond l (b.length + 1) a vs → k < length vs → negsuc 15998 ≤ℤ a → i ≡ a +ℤ pos k →
+      new ≡ with_top beyond l b i (get_or vs k (pos 0)) → s' ≡ further_of beyond new s new s → p' ≡ further_of beyond new s i p → Begun beyond l b (a +ℤ pos (k + 1)) s' p'
+  row_turn vs a i s s' new p p' k w tops lt low ei en es ep =
+      let top : Peak beyond l (a +ℤ pos k) (a +ℤ pos k +ℤ pos (b.length + 1)) (get_or vs k (pos 0)) = let e : a +ℤ pos (b.length + 1 + k) ≡ a +ℤ pos k +ℤ pos (b.length + 1) = omega (arith, ints) in rw e at (tops k lt) in
+      pair_turn (a +ℤ pos k) _ s s' new (get_or vs k (pos 0)) p p' w (omega (arith, ints)) (omega (arith, ints)) top (rw ei at en) es (rw ei at ep)
 
   -- the best start with the furthest place of the axle on its block
   pub with_place : (hi s a t z : ℤ) (p : ℤ × ℤ) → Begun beyond l b hi s a → Worst beyond (ordinate_or_zero l) (Between a (a +ℤ pos (b.length + 1))) t z → p ≡ (a, z) → Worst beyond (laden beyond l b) (On b.length hi) s p
@@ -144,7 +116,7 @@ regroup r p x y u v all =
 
 -- what stands with the axle, from the weighed sums
 pub rest_is : (beyond : ℤ → ℤ → Bool) (l : Line) (b : BlockLoad) (xs gs sums : List ℤ) (all a : ℤ) → Running l (λ _. true) xs → Running l (gains beyond l) gs → Weighted b xs gs sums →
-    all ≡ pos b.lane *ℤ get_or gs (length xs - 1) (pos 0) → between sums a b.length +ℤ all ≡ rest beyond l b a
+    all ≡ pos b.lane *ℤ areas l (gains beyond l) → between sums a b.length +ℤ all ≡ rest beyond l b a
 unfolding between
 rest_is beyond l b xs gs sums all a ra rg w ea =
     let n = b.length in
@@ -156,22 +128,22 @@ rest_is beyond l b xs gs sums all a ra rg w ea =
     ap (λ k. get_or xs (clip k (a +ℤ pos n)) (pos 0) -ℤ get_or xs (clip k a) (pos 0)) (sym m') ∙ between_is l (λ _. true) xs a n ra ∙ under_alike l (λ k. block a n k && true) (block a n) l.len (λ k. unit (block a n k)) in
     let g : get_or gs hi (pos 0) -ℤ get_or gs lo (pos 0) ≡ areas l (λ k. block a n k && gains beyond l k) =
     ap (λ k. get_or gs (clip k (a +ℤ pos n)) (pos 0) -ℤ get_or gs (clip k a) (pos 0)) (omega (arith, rg.long)) ∙ between_is l (gains beyond l) gs a n rg in
-    let y : get_or gs l.len (pos 0) -ℤ (get_or gs hi (pos 0) -ℤ get_or gs lo (pos 0)) ≡ areas l (beside beyond l n a) =
-    rw (g, rg.each l.len (omega arith)) (sym (under_outside l (block a n) (gains beyond l) l.len)) in
+    let y : areas l (gains beyond l) -ℤ (get_or gs hi (pos 0) -ℤ get_or gs lo (pos 0)) ≡ areas l (beside beyond l n a) =
+    rw g (sym (under_outside l (block a n) (gains beyond l) l.len)) in
     let top = clip_high l.len (a +ℤ pos n) in
     let low = clip_high l.len a in
-    rw (m, ea, m', w.each hi (omega (arith, ra.long)), w.each lo (omega (arith, ra.long)), regroup b.rate b.lane (get_or xs hi (pos 0)) (get_or xs lo (pos 0)) (get_or gs hi (pos 0)) (get_or gs lo (pos 0)) (get_or gs l.len (pos 0)), x, y) refl
+    rw (m, ea, w.each hi (omega (arith, ra.long)), w.each lo (omega (arith, ra.long)), regroup b.rate b.lane (get_or xs hi (pos 0)) (get_or xs lo (pos 0)) (get_or gs hi (pos 0)) (get_or gs lo (pos 0)) (areas l (gains beyond l)), x, y) refl
   where
     unit : (t : Bool) → t && true ≡ t
     unit true = refl
     unit false = refl
 
 -- how large the weighed sums are
-pub weighted_sized : (b : BlockLoad) (xs gs sums : List ℤ) → Moderate b → Sized 200000000000 xs → Sized 200000000000 gs → length gs ≡ length xs → Weighted b xs gs sums → Sized 3000000000000000 sums
-weighted_sized b xs gs sums m x g e w = record {
+pub weighted_sized : (b : BlockLoad) (xs gs sums : List ℤ) → Sized 200000000000 xs → Sized 200000000000 gs → length gs ≡ length xs → Weighted b xs gs sums → Sized 3000000000000000 sums
+weighted_sized b xs gs sums x g e w = record {
   some = omega (arith, x.some, w.long);
   small = λ k h.
-      let p = product_small (pos b.rate) (get_or xs k (pos 0)) 12800 200000000000 m.rate (x.small k (omega (arith, w.long))) in
-      let q = product_small (pos b.lane) (get_or gs k (pos 0)) 672 200000000000 m.lane (g.small k (omega (arith, w.long))) in
+      let p = product_small (pos b.rate) (get_or xs k (pos 0)) 12800 200000000000 b.rate_limit (x.small k (omega (arith, w.long))) in
+      let q = product_small (pos b.lane) (get_or gs k (pos 0)) 672 200000000000 b.lane_limit (g.small k (omega (arith, w.long))) in
       rw (w.each k (omega (arith, w.long))) (omega (arith, ints));
 }

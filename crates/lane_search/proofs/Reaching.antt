@@ -3,16 +3,12 @@ use Rattle.std.proofs.Common.{◌≡◌, Bool, true, false, cond, ◌⊎◌, ℤ
 use Rattle.std.proofs.lemmas.Bool.{both_ways}
 use Rattle.keeper.specs.Order.{Order, further_of}
 use Rattle.keeper.specs.Worst.{Worst}
-use Rattle.keeper.proofs.Steps.{worst_same, worst_join}
+use Rattle.keeper.proofs.Steps.{worst_join}
 use Rattle.lines.specs.Lines.{Line}
 use Rattle.loads.specs.declared.load_sets.Loads.{Loads}
 use Rattle.loads.specs.Loads.{Load, axles, vehicle, train, light, lane_effect}
 use Rattle.lane_search.specs.declared.places.LanePlace.{LanePlace}
 use Rattle.lane_search.specs.Places.{load_at, Kind, OfAxles, OfVehicle, OfTrain, Reaches}
-
--- the same loads under another name
-pub reaches_same : {beyond : ℤ → ℤ → Bool} (l : Line) (t : Loads) (P R : Load → Type 0) (s : ℤ) (p : LanePlace) → Reaches beyond l t P s p → ((x : Load) → P x → R x) → ((x : Load) → R x → P x) → Reaches beyond l t R s p
-reaches_same l t P R s p r to from = record { furthest = worst_same R r.furthest to from; unused = r.unused; small = r.small }
 
 -- the further of the furthest of two sets of loads
 pub reaches_join : {beyond : ℤ → ℤ → Bool} (o : Order beyond) (l : Line) (t : Loads) (P Q R : Load → Type 0) (s u v : ℤ) (p q r : LanePlace)

@@ -22,7 +22,7 @@ use Rattle.traffic.specs.declared.records.Sign.TheVariants as sign
 use Rattle.traffic.specs.declared.records.Code.TheVariants as code
 use Rattle.traffic.specs.Records.{fills, of_sign, beside_train}
 use Rattle.lane_search.specs.declared.block_loads.BlockLoad.{BlockLoad}
-use Rattle.lane_search.specs.Blocks.{block_load, beside, laden, On}
+use Rattle.lane_search.specs.Blocks.{Factors, beside, laden, On}
 use Rattle.lane_search.specs.Gains.{gains}
 use Rattle.lane_search.specs.declared.places.LanePlace.{LanePlace}
 use Rattle.lane_search.specs.Places.{OfVehicle, OfTrain, Kind, Reaches}
@@ -40,24 +40,24 @@ apart : (x y z : ℤ) → x +ℤ (y +ℤ z) ≡ y +ℤ x +ℤ z
 apart x y z = omega (arith, ints)
 
 module _ {beyond : ℤ → ℤ → Bool} (o : Order beyond) (l : Line) (t : Loads) where
-  vehicle_is : (x : ℤ × ℤ) → laden beyond l (block_load t.vehicle t.extra 0) x ≡ lane_effect l t (vehicle x.0 x.1)
-  vehicle_is x =
+  vehicle_is : (b : BlockLoad) (x : ℤ × ℤ) → Factors t.vehicle t.extra 0 b → laden beyond l b x ≡ lane_effect l t (vehicle x.0 x.1)
+  vehicle_is b x f =
       let z = zero-*ℤ (areas l (beside beyond l t.vehicle.length x.0)) in
       let e = apart (axle_effect l t.extra x.1) (spread_effect l t.vehicle x.0) (pos 0 *ℤ areas l (beside beyond l t.vehicle.length x.0)) in
-      omega (arith, ints)
+      rw (f.length, f.rate, f.extra, f.lane) (omega (arith, ints))
 
-  vehicle_worst : (b : BlockLoad) (s : ℤ) (x : ℤ × ℤ) → b ≡ block_load t.vehicle t.extra 0 → Worst beyond (laden beyond l b) (On b.length (pos 100001)) s x → Worst beyond (lane_effect l t) (OfVehicle t) s (vehicle x.0 x.1)
-  vehicle_worst b s x e v = let w = rw e at v in record {
-    within = on_start t.vehicle.length x w.within;
-    reached = w.reached ∙ vehicle_is x;
-    none = by w;
+  vehicle_worst : (b : BlockLoad) (s : ℤ) (x : ℤ × ℤ) → Factors t.vehicle t.extra 0 b → Worst beyond (laden beyond l b) (On b.length (pos 100001)) s x → Worst beyond (lane_effect l t) (OfVehicle t) s (vehicle x.0 x.1)
+  vehicle_worst b s x f w = record {
+    within = rw f.length at (on_start b.length x w.within);
+    reached = w.reached ∙ vehicle_is b x f;
+    none = by;
   }
     where
-      by : Worst beyond (laden beyond l (block_load t.vehicle t.extra 0)) (On t.vehicle.length (pos 100001)) s x → (y : Load) → OfVehicle t y → beyond (lane_effect l t y) s ≡ false
-      by w (axles g a) h = absurd h
-      by w (vehicle a z) h = rw (← vehicle_is (a, z)) (w.none (a, z) (start_on t.vehicle.length a z h.0 h.1))
-      by w (train a z set) h = absurd h
-      by w (light set) h = absurd h
+      by : (y : Load) → OfVehicle t y → beyond (lane_effect l t y) s ≡ false
+      by (axles g a) h = absurd h
+      by (vehicle a z) h = rw (← vehicle_is b (a, z) f) (w.none (a, z) (start_on b.length a z h.0 (rw f.length h.1)))
+      by (train a z set) h = absurd h
+      by (light set) h = absurd h
 
   module _ (s : Sign) (fit : (d : ℤ) → fills s d ≡ beyond d (pos 0)) where
     -- the cells that the sign fills are those that help
@@ -67,10 +67,10 @@ module _ {beyond : ℤ → ℤ → Bool} (o : Order beyond) (l : Line) (t : Load
     outside : (n : ℕ) (a : ℤ) → areas l (beside_train l n s a) ≡ areas l (beside beyond l n a)
     outside n a = under_alike l (beside_train l n s a) (beside beyond l n a) l.len (λ k. ap (λ (b : Bool). not (block a n k) && b) (filled k))
 
-    train_is : (x : ℤ × ℤ) → laden beyond l (block_load t.train t.extra t.lane) x ≡ lane_effect l t (train x.0 x.1 (beside_train l t.train.length s x.0))
-    train_is x =
-        apart (axle_effect l t.extra x.1) (spread_effect l t.train x.0) (lane_load_effect l t.lane (beside beyond l t.train.length x.0))
-        ∙ ap (λ (v : ℤ). spread_effect l t.train x.0 +ℤ axle_effect l t.extra x.1 +ℤ pos (112 * t.lane) *ℤ v) (sym (outside t.train.length x.0))
+    train_is : (b : BlockLoad) (x : ℤ × ℤ) → Factors t.train t.extra t.lane b → laden beyond l b x ≡ lane_effect l t (train x.0 x.1 (beside_train l t.train.length s x.0))
+    train_is b x f =
+        rw (f.length, f.rate, f.extra, f.lane) (apart (axle_effect l t.extra x.1) (spread_effect l t.train x.0) (lane_load_effect l t.lane (beside beyond l t.train.length x.0))
+        ∙ ap (λ (v : ℤ). spread_effect l t.train x.0 +ℤ axle_effect l t.extra x.1 +ℤ pos (112 * t.lane) *ℤ v) (sym (outside t.train.length x.0)))
 
     -- no set of cells outside the block goes further than those that help
     any_train : (a z : ℤ) (set : ℕ → Bool) → ((k : ℕ) → set k ≡ true → block a t.train.length k ≡ false) →
@@ -79,18 +79,18 @@ module _ {beyond : ℤ → ℤ → Bool} (o : Order beyond) (l : Line) (t : Load
         added o _ _ _ _ (not_beyond_itself o (spread_effect l t.train a +ℤ axle_effect l t.extra z))
         (times o (112 * t.lane) (areas l set) (areas l (beside_train l t.train.length s a)) (rw (outside t.train.length a) (gains_furthest o l (block a t.train.length) set l.len h)))
 
-    train_worst : (b : BlockLoad) (u : ℤ) (x : ℤ × ℤ) → b ≡ block_load t.train t.extra t.lane → Worst beyond (laden beyond l b) (On b.length (pos 100001)) u x → Worst beyond (lane_effect l t) (OfTrain t) u (train x.0 x.1 (beside_train l t.train.length s x.0))
-    train_worst b u x e v = let w = rw e at v in let p = on_start t.train.length x w.within in record {
-      within = (p.0, p.1, λ k h. not-true _ (and_parts (not (block x.0 t.train.length k)) (of_sign l s k) h).0);
-      reached = w.reached ∙ train_is x;
-      none = by w;
+    train_worst : (b : BlockLoad) (u : ℤ) (x : ℤ × ℤ) → Factors t.train t.extra t.lane b → Worst beyond (laden beyond l b) (On b.length (pos 100001)) u x → Worst beyond (lane_effect l t) (OfTrain t) u (train x.0 x.1 (beside_train l t.train.length s x.0))
+    train_worst b u x f w = let p = on_start b.length x w.within in record {
+      within = (p.0, rw f.length at p.1, λ k h. not-true _ (and_parts (not (block x.0 t.train.length k)) (of_sign l s k) h).0);
+      reached = w.reached ∙ train_is b x f;
+      none = by;
     }
       where
-        by : Worst beyond (laden beyond l (block_load t.train t.extra t.lane)) (On t.train.length (pos 100001)) u x → (y : Load) → OfTrain t y → beyond (lane_effect l t y) u ≡ false
-        by w (axles g a) h = absurd h
-        by w (vehicle a z) h = absurd h
-        by w (train a z set) h = o.chain _ _ _ (any_train a z set h.2) (rw (← train_is (a, z)) (w.none (a, z) (start_on t.train.length a z h.0 h.1)))
-        by w (light set) h = absurd h
+        by : (y : Load) → OfTrain t y → beyond (lane_effect l t y) u ≡ false
+        by (axles g a) h = absurd h
+        by (vehicle a z) h = absurd h
+        by (train a z set) h = o.chain _ _ _ (any_train a z set h.2) (rw (← train_is b (a, z) f) (w.none (a, z) (start_on b.length a z h.0 (rw f.length h.1))))
+        by (light set) h = absurd h
 
     -- in a light lane too
     light_worst : (u : ℤ) → u ≡ pos (112 * t.lane) *ℤ areas l (gains beyond l) → Worst beyond (lane_effect l t) (Kind t false) u (light (of_sign l s))
@@ -137,17 +137,17 @@ train_small l t a z set m h k j =
     le_trans (sum_small (spread_effect l t.train a +ℤ axle_effect l t.extra z) (lane_load_effect l t.lane set) _ _ p (lane_part l t.lane set m j)) (lit≤ tt)
 
 -- what the searches of a vehicle, of a train and of p answer
-pub vehicle_reaches : {beyond : ℤ → ℤ → Bool} → Order beyond → (l : Line) (t : Loads) → Mild l → t.vehicle.weight ≤ 800 → t.extra ≤ 50 → (b : BlockLoad) (s u : ℤ) (x : ℤ × ℤ) (p : LanePlace) → b ≡ block_load t.vehicle t.extra 0 → Worst beyond (laden beyond l b) (On b.length (pos 100001)) s x →
-    u ≡ s → p ≡ record { code = code.Vehicle; a = x.0; z = x.1; sign = sign.None } → Reaches beyond l t (OfVehicle t) u p
-vehicle_reaches o l t m h k b s u x p e v eu ep =
-    let w = vehicle_worst o l t b s x e v in
-    rw (eu, ep) record { furthest = w; unused = refl; small = rw w.reached (vehicle_small l t x.0 x.1 m h k) }
+pub vehicle_reaches : {beyond : ℤ → ℤ → Bool} → Order beyond → (l : Line) (t : Loads) → Mild l → t.vehicle.weight ≤ 800 → t.extra ≤ 50 → (b : BlockLoad) (s : ℤ) (p : LanePlace) → Factors t.vehicle t.extra 0 b →
+    Worst beyond (laden beyond l b) (On b.length (pos 100001)) s (p.a, p.z) → p.code ≡ code.Vehicle → p.sign ≡ sign.None → Reaches beyond l t (OfVehicle t) s p
+vehicle_reaches o l t m h k b s p f v ec es =
+    let w = vehicle_worst o l t b s (p.a, p.z) f v in
+    record { furthest = rw ec w; unused = rw (ec, es) refl; small = rw w.reached (vehicle_small l t p.a p.z m h k) }
 
-pub train_reaches : {beyond : ℤ → ℤ → Bool} → Order beyond → (l : Line) (t : Loads) → Mild l → t.train.weight ≤ 800 → t.extra ≤ 50 → t.lane ≤ 6 → (c : Sign) → ((d : ℤ) → fills c d ≡ beyond d (pos 0)) → (b : BlockLoad) (s u : ℤ) (x : ℤ × ℤ) (p : LanePlace) → b ≡ block_load t.train t.extra t.lane → Worst beyond (laden beyond l b) (On b.length (pos 100001)) s x →
-    u ≡ s → p ≡ record { code = code.Train; a = x.0; z = x.1; sign = c } → Reaches beyond l t (OfTrain t) u p
-train_reaches o l t m h k j c fit b s u x p e v eu ep =
-    let w = train_worst o l t c fit b s x e v in
-    rw (eu, ep) record { furthest = w; unused = tt; small = rw w.reached (train_small l t x.0 x.1 _ m h k j) }
+pub train_reaches : {beyond : ℤ → ℤ → Bool} → Order beyond → (l : Line) (t : Loads) → Mild l → t.train.weight ≤ 800 → t.extra ≤ 50 → t.lane ≤ 6 → (b : BlockLoad) (s : ℤ) (p : LanePlace) → ((d : ℤ) → fills p.sign d ≡ beyond d (pos 0)) → Factors t.train t.extra t.lane b →
+    Worst beyond (laden beyond l b) (On b.length (pos 100001)) s (p.a, p.z) → p.code ≡ code.Train → Reaches beyond l t (OfTrain t) s p
+train_reaches o l t m h k j b s p fit f v ec =
+    let w = train_worst o l t p.sign fit b s (p.a, p.z) f v in
+    record { furthest = rw ec w; unused = rw ec tt; small = rw w.reached (train_small l t p.a p.z _ m h k j) }
 
 pub light_reaches : {beyond : ℤ → ℤ → Bool} → Order beyond → (l : Line) (t : Loads) → Mild l → t.lane ≤ 6 → (c : Sign) → ((d : ℤ) → fills c d ≡ beyond d (pos 0)) → (u : ℤ) (p : LanePlace) → u ≡ pos (112 * t.lane) *ℤ areas l (gains beyond l) →
     p ≡ record { code = code.Light; a = pos 0; z = pos 0; sign = c } → Reaches beyond l t (Kind t false) u p

@@ -1,5 +1,5 @@
 -- A block with an axle on it, and p beside it on the cells that help.
-use Rattle.std.specs.Prelude.{◌≡◌, ℕ, ◌+◌, ◌*◌, ◌/◌, ◌<◌, ◌≤◌, Bool, not, ◌&&◌, List, length, ℤ, pos, negsuc, ◌+ℤ◌, ◌-ℤ◌, ◌*ℤ◌, slice_index_or}
+use Rattle.std.specs.Prelude.{◌≡◌, ℕ, ◌+◌, ◌*◌, ◌/◌, ◌<◌, Bool, not, ◌&&◌, List, length, ℤ, pos, negsuc, ◌+ℤ◌, ◌-ℤ◌, ◌*ℤ◌, slice_index_or}
 use Rattle.keeper.specs.Worst.{Worst, Between}
 use Rattle.lines.specs.Lines.{Line, ordinate_or_zero}
 use Rattle.lines.specs.Cells.{areas, block}
@@ -7,16 +7,12 @@ use Rattle.loads.specs.declared.load_sets.Spread.{Spread}
 use Rattle.lane_search.specs.declared.block_loads.BlockLoad.{BlockLoad}
 use Rattle.lane_search.specs.Gains.{gains}
 
--- How large the factors of a block can be.
-pub record Moderate (b : BlockLoad) : Type 0 where
-  pub length : b.length ≤ 16000
-  pub rate : b.rate ≤ 12800
-  pub extra : b.extra ≤ 11200000
-  pub lane : b.lane ≤ 672
-
--- The factors of a weight that is spread over a block, of A and of p.
-abbrev pub block_load : Spread → ℕ → ℕ → BlockLoad
-block_load s a p = record { length = s.length; rate = 112000 / s.length * s.weight; extra = 224000 * a; lane = 112 * p }
+-- The block load has the factors of a weight that is spread over its block, of A and of p.
+pub record Factors (s : Spread) (a p : ℕ) (b : BlockLoad) : Type 0 where
+  pub length : b.length ≡ s.length
+  pub rate : b.rate ≡ 112000 / s.length * s.weight
+  pub extra : b.extra ≡ 224000 * a
+  pub lane : b.lane ≡ 112 * p
 
 -- The cells outside the block of n mm from a on that go further than 0.
 abbrev pub beside : (ℤ → ℤ → Bool) → Line → ℕ → ℤ → ℕ → Bool

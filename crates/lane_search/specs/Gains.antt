@@ -1,11 +1,19 @@
 -- Cells that help, and sums over the first cells of a line.
-use Rattle.std.specs.Prelude.{◌≡◌, ℕ, ◌+◌, ◌-◌, ◌<◌, ◌≤◌, Bool, List, length, ℤ, pos, ◌+ℤ◌, ◌-ℤ◌, slice_index_or, unsigned_abs}
+use Rattle.std.specs.Prelude.{◌≡◌, ℕ, ◌+◌, ◌-◌, ◌<◌, ◌≤◌, Bool, List, length, map, ℤ, pos, ◌+ℤ◌, ◌-ℤ◌, slice_index_or, unsigned_abs}
 use Rattle.lines.specs.Lines.{Line}
+use Rattle.lane_search.specs.declared.total.Total.{Total}
 use Rattle.lines.specs.Cells.{double_area, under, clip}
 
 -- The cells whose double area goes further than 0.
 abbrev pub gains : (ℤ → ℤ → Bool) → Line → ℕ → Bool
 gains beyond l k = beyond (double_area l k) (pos 0)
+
+-- The sums of all first cells, and of those that help.
+abbrev pub areas_of : List Total → List ℤ
+areas_of ts = map (λ t. t.area) ts
+
+abbrev pub helps_of : List Total → List ℤ
+helps_of ts = map (λ t. t.help) ts
 
 -- The list holds, for each k from 0 to the line's length, the double areas of the first k cells that are in the set.
 pub record Running (l : Line) (set : ℕ → Bool) (sums : List ℤ) : Type 0 where

@@ -15,3 +15,7 @@ Backs beyond l a i vs = (j : ℕ) → i ≤ j → j < length vs → Peak beyond 
 -- Each place j below i holds the furthest ordinate of the window from a + j on, which is as long as the row.
 abbrev pub Fulls : (ℤ → ℤ → Bool) → Line → ℤ → ℕ → List ℤ → Type 0
 Fulls beyond l a i vs = (j : ℕ) → j < i → Peak beyond l (a +ℤ pos j) (a +ℤ pos (length vs + j)) (slice_index_or vs j (pos 0))
+
+-- Each place j of a row holds the furthest ordinate of the n places from a + j on.
+abbrev pub Windowed : (ℤ → ℤ → Bool) → Line → ℕ → ℤ → List ℤ → Type 0
+Windowed beyond l n a vs = (j : ℕ) → j < length vs → Peak beyond l (a +ℤ pos j) (a +ℤ pos (n + j)) (slice_index_or vs j (pos 0))

@@ -1,13 +1,14 @@
 //! Groups of axles: where each goes furthest, and which of them does.
-ghost use Rattle.std.specs.Prelude.{◌≡◌, ◌+◌, ◌-◌, ◌*◌, ◌<◌, ◌≤◌, length, pos, negsuc, ◌*ℤ◌, ◌≤ℤ◌, unsigned_abs};
+ghost use Rattle.std.specs.Prelude.{◌≡◌, ◌+◌, ◌-◌, ◌*◌, ◌<◌, ◌≤◌, length, ℤ, pos, negsuc, ◌+ℤ◌, ◌*ℤ◌, ◌≤ℤ◌, unsigned_abs};
 ghost use Rattle.keeper.specs.Worst.{Worst, Between};
 ghost use Rattle.loads.specs.Decks.{Start};
-ghost use Rattle.lane_search.specs.Groups.{of_three, at_three, Limited, number, OfGroup, UpTo};
+ghost use Rattle.loads.specs.Loads.{weights, padded};
+ghost use Rattle.lane_search.specs.Groups.{of_three, at_three, Limited, Computes, number, OfGroup, UpTo};
 ghost use Rattle.lane_search.specs.Places.{Reaches, OfAxles};
-ghost use Rattle.lane_search.specs.Samples.{sampled, Tame};
+ghost use Rattle.lane_search.specs.Readings.{line_read};
 
-use crate::ordinates::ordinate_at;
 use crate::places::LanePlace;
+use crate::samples::Sample;
 use keeper::keepers::Keeper;
 use keeper::senses::Sense;
 use loads::load_sets::{Group, LoadSet};
@@ -24,110 +25,97 @@ fn weighed(weight: u16, y: i64) -> i64
     weight as i64 * y
 }
 
-// The weights of three axles times the ordinates y, u and v.
-fn weighed_three(weights: (u16, u16, u16), y: i64, u: i64, v: i64) -> i64
-    requires light { Limited weights }
-    requires small { (unsigned_abs y ≤ 1000000) × ((unsigned_abs u ≤ 1000000) × (unsigned_abs v ≤ 1000000)) }
-    ensures { result ≡ of_three weights y u v }
-{
-    weighed(weights.0, y) + (weighed(weights.1, u) + weighed(weights.2, v))
-}
-
-// The weights of three axles times the ordinates under them, the first axle at a.
-fn axles_at(ys: &[i32], spacing: u16, weights: (u16, u16, u16), a: i64) -> i64
-    requires tame { Tame ys.now }
-    requires light { Limited weights }
-    requires near { Start a }
-    ensures { result ≡ at_three (sampled ys.now) spacing weights a }
-{
-    let d = spacing as i64;
-    let y = ordinate_at(ys, a);
-    let u = ordinate_at(ys, a + d);
-    let v = ordinate_at(ys, a + d + d);
-    weighed_three(weights, y, u, v)
-}
-
-// The same where all three stand on the line, which needs no tests.
-fn axles_on(ys: &[i32], spacing: u16, weights: (u16, u16, u16), a: usize) -> i64
-    requires tame { Tame ys.now }
-    requires light { Limited weights }
-    requires on { a + spacing + spacing < length ys.now }
-    ensures { result ≡ at_three (sampled ys.now) spacing weights (pos a) }
-{
-    let d = spacing as usize;
-    weighed_three(
-        weights,
-        ys[a] as i64,
-        ys[a + d] as i64,
-        ys[a + d + d] as i64,
-    )
-}
-
-// Offers the starts from `from` on, as far as `to`.
-fn offer_starts<S: Sense>(
-    before: Keeper<S, i64>,
-    ys: &[i32],
+// The axles of a group as three weights, with 0 for an axle that it has not, and how far each stands from the next.
+#[derive(Clone, Copy)]
+struct Axles {
     spacing: u16,
     weights: (u16, u16, u16),
+    ghost close: { spacing ≤ 2000 },
+    ghost light: { Limited weights },
+}
+
+impl Axles {
+    // The axles of a group of a load set.
+    fn of(set: &LoadSet, group: Group) -> Axles
+        ensures spacing { result.spacing ≡ set.now.loads.spacing }
+        ensures weights { result.weights ≡ padded (weights set.now.loads group) }
+    {
+        Axles {
+            spacing: set.loads.spacing,
+            weights: axle_weights(set, group),
+        }
+    }
+
+    // The weights times the ordinates y, u and v.
+    fn weigh(self, y: i64, u: i64, v: i64) -> i64
+        requires first { unsigned_abs y ≤ 1000000 }
+        requires second { unsigned_abs u ≤ 1000000 }
+        requires third { unsigned_abs v ≤ 1000000 }
+        ensures { result ≡ of_three self.weights y u v }
+    {
+        weighed(self.weights.0, y) + (weighed(self.weights.1, u) + weighed(self.weights.2, v))
+    }
+
+    // The weights times the ordinates under them, the first axle at a.
+    fn at(self, sample: &Sample, a: i64) -> i64
+        requires { Start a }
+        ensures { result ≡ at_three (line_read sample.now) self.spacing self.weights a }
+    {
+        let d = self.spacing as i64;
+        self.weigh(sample.at(a), sample.at(a + d), sample.at(a + d + d))
+    }
+
+    // The same where all three stand on the line, which needs no tests: with them at each start a whole search takes a fifth longer.
+    fn on(self, sample: &Sample, a: i64) -> i64
+        requires from { pos 0 ≤ℤ a }
+        requires to { (a +ℤ pos self.spacing +ℤ pos self.spacing) ≤ℤ pos sample.now.length }
+        ensures { result ≡ at_three (line_read sample.now) self.spacing self.weights a }
+    {
+        let x = a as usize;
+        let d = self.spacing as usize;
+        self.weigh(sample.on(x), sample.on(x + d), sample.on(x + d + d))
+    }
+}
+
+// Offers the starts from `from` on, as far as `to`. Whatever effect the calls return, the furthest start before `from` becomes the furthest before `to`.
+fn offer_starts<S: Sense, F: Fn(i64) -> i64>(
+    before: Keeper<S, i64>,
+    effect: F,
     from: i64,
     to: i64,
 ) -> Keeper<S, i64>
-    requires tame { Tame ys.now }
-    requires light { Limited weights }
-    requires span { (negsuc 15998 ≤ℤ from) × ((from ≤ℤ to) × (to ≤ℤ pos 100001)) }
-    requires before { Worst S.beyond (at_three (sampled ys.now) spacing weights) (Between (negsuc 15999) from) before.sum before.place }
-    ensures { Worst S.beyond (at_three (sampled ys.now) spacing weights) (Between (negsuc 15999) to) result.sum result.place }
+    requires far { negsuc 15999 ≤ℤ from }
+    requires upward { from ≤ℤ to }
+    requires callable { (a : ℤ) → Between from to a → F.pre effect a }
+    ensures { (f : ℤ → ℤ) → Computes (F.post effect) from to f
+        → Worst S.beyond f (Between (negsuc 15999) from) before.sum before.place
+        → Worst S.beyond f (Between (negsuc 15999) to) result.sum result.place }
 {
     let mut best = before;
     for start in from..to {
-        best.offer(axles_at(ys, spacing, weights, start), start);
-    }
-    best
-}
-
-// Offers the starts from 0 on at which all three axles stand on the line.
-fn offer_inner<S: Sense>(
-    before: Keeper<S, i64>,
-    ys: &[i32],
-    spacing: u16,
-    weights: (u16, u16, u16),
-    to: usize,
-) -> Keeper<S, i64>
-    requires tame { Tame ys.now }
-    requires light { Limited weights }
-    requires on { to ≡ length ys.now - 2 * spacing }
-    requires before { Worst S.beyond (at_three (sampled ys.now) spacing weights) (Between (negsuc 15999) (pos 0)) before.sum before.place }
-    ensures { Worst S.beyond (at_three (sampled ys.now) spacing weights) (Between (negsuc 15999) (pos to)) result.sum result.place }
-{
-    let mut best = before;
-    for start in 0..to {
-        best.offer(axles_on(ys, spacing, weights, start), start as i64);
+        best.offer(effect(start), start);
     }
     best
 }
 
 // The start at which three axles go furthest. Where none of them stands on the line, they go as far as at -16,000.
-fn furthest_start<S: Sense>(ys: &[i32], spacing: u16, weights: (u16, u16, u16)) -> Keeper<S, i64>
-    requires tame { Tame ys.now }
-    requires light { Limited weights }
-    requires close { spacing ≤ 2000 }
-    ensures { Worst S.beyond (at_three (sampled ys.now) spacing weights) Start result.sum result.place }
+fn furthest_start<S: Sense>(sample: &Sample, axles: Axles) -> Keeper<S, i64>
+    ensures { Worst S.beyond (at_three (line_read sample.now) axles.spacing axles.weights) Start result.sum result.place }
 {
-    let length = 2 * spacing as usize;
-    let first: Keeper<S, i64> = Keeper::new(axles_at(ys, spacing, weights, -16_000), -16_000);
-    let best = offer_starts(first, ys, spacing, weights, -(length as i64), 0);
-    let inner = ys.len().saturating_sub(length);
-    let best = offer_inner(best, ys, spacing, weights, inner);
-    offer_starts(best, ys, spacing, weights, inner as i64, ys.len() as i64)
+    let length = 2 * axles.spacing as usize;
+    let end = sample.end();
+    let inner = end.saturating_sub(length) as i64;
+    let first = Keeper::new(axles.at(sample, -16_000), -16_000);
+    let best = offer_starts(first, |a| axles.at(sample, a), -(length as i64), 0);
+    let best = offer_starts(best, |a| axles.on(sample, a), 0, inner);
+    offer_starts(best, |a| axles.at(sample, a), inner, end as i64)
 }
 
 // Of the starts of one group, the one whose effect goes furthest.
-fn of_group<S: Sense>(ys: &[i32], set: &LoadSet, group: Group) -> Keeper<S, LanePlace>
-    requires { Tame ys.now }
-    ensures { Reaches S.beyond (sampled ys.now) set.now.loads (OfGroup group) result.sum result.place }
+fn of_group<S: Sense>(sample: &Sample, set: &LoadSet, group: Group) -> Keeper<S, LanePlace>
+    ensures { Reaches S.beyond (line_read sample.now) set.now.loads (OfGroup group) result.sum result.place }
 {
-    let weights = axle_weights(set, group);
-    let best: Keeper<S, i64> = furthest_start(ys, set.loads.spacing, weights);
+    let best = furthest_start::<S>(sample, Axles::of(set, group));
     let place = LanePlace {
         code: Code::Axles(group),
         a: best.place as i32,
@@ -138,25 +126,32 @@ fn of_group<S: Sense>(ys: &[i32], set: &LoadSet, group: Group) -> Keeper<S, Lane
 }
 
 // Offers a group to the best of those before it.
-fn offer_group<S: Sense>(best: &mut Keeper<S, LanePlace>, ys: &[i32], set: &LoadSet, group: Group)
-    requires tame { Tame ys.now }
-    requires before { Reaches S.beyond (sampled ys.now) set.now.loads (UpTo (number group - 1)) best.old.sum best.old.place }
-    ensures { Reaches S.beyond (sampled ys.now) set.now.loads (UpTo (number group)) best.new.sum best.new.place }
+fn offer_group<S: Sense>(
+    best: &mut Keeper<S, LanePlace>,
+    sample: &Sample,
+    set: &LoadSet,
+    group: Group,
+)
+    requires before { Reaches S.beyond (line_read sample.now) set.now.loads (UpTo (number group - 1)) best.old.sum best.old.place }
+    ensures { Reaches S.beyond (line_read sample.now) set.now.loads (UpTo (number group)) best.new.sum best.new.place }
 {
-    let other: Keeper<S, LanePlace> = of_group(ys, set, group);
+    let other = of_group::<S>(sample, set, group);
     best.offer(other.sum, other.place);
 }
 
 // Of all groups of axles at all starts, the one whose effect goes furthest.
-pub(crate) fn furthest_axles<S: Sense>(ys: &[i32], set: &LoadSet) -> Keeper<S, LanePlace>
-    requires { Tame ys.now }
-    ensures { Reaches S.beyond (sampled ys.now) set.now.loads OfAxles result.sum result.place }
+pub(crate) fn furthest_axles<S: Sense>(sample: &Sample, set: &LoadSet) -> Keeper<S, LanePlace>
+    ensures { Reaches S.beyond (line_read sample.now) set.now.loads OfAxles result.sum result.place }
 {
-    let mut best: Keeper<S, LanePlace> = of_group(ys, set, Group::Single);
-    offer_group(&mut best, ys, set, Group::Bogie12);
-    offer_group(&mut best, ys, set, Group::Bogie21);
-    offer_group(&mut best, ys, set, Group::Triple211);
-    offer_group(&mut best, ys, set, Group::Triple121);
-    offer_group(&mut best, ys, set, Group::Triple112);
+    let mut best = of_group::<S>(sample, set, Group::Single);
+    for group in [
+        Group::Bogie12,
+        Group::Bogie21,
+        Group::Triple211,
+        Group::Triple121,
+        Group::Triple112,
+    ] {
+        offer_group(&mut best, sample, set, group);
+    }
     best
 }

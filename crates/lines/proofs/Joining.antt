@@ -1,7 +1,9 @@
 -- The line of a number among joined-lines lines. Assumes nothing.
-use Rattle.std.proofs.Common.{◌≡◌, ◌-◌, ◌<◌, ◌≤◌, List, ◌++◌, length, ℤ, pos, negsuc, ◌-ℤ◌, ◌≤ℤ◌, ◌<ℤ◌, sym, refl, ap, ◌∙◌, arith, length-take}
+use Rattle.std.proofs.Common.{◌+ℤ◌, ◌≡◌, ◌-◌, ◌<◌, ◌≤◌, List, ◌++◌, length, ℤ, pos, negsuc, ◌-ℤ◌, ◌≤ℤ◌, ◌<ℤ◌, sym, refl, ap, ◌∙◌, arith, length-append, length-take}
 use borrow.Author.Differences.{ints}
 use Rattle.std.proofs.lemmas.List.{get_or-take, get_or_append_left, get_or-append_right, get_or_past}
+use Rattle.std.specs.Int.{int_min}
+use Rattle.std.proofs.lemmas.Int.{int_min_is}
 use Rattle.lines.specs.Lines.{Line, no_line, line_no}
 use Rattle.lines.specs.Joins.{joined_lines}
 
@@ -21,3 +23,10 @@ joined_second xs ys (negsuc n) low high = absurd (omega (arith, ints))
 pub joined_past : (xs ys : List Line) (i : ℤ) → pos 65535 ≤ℤ i → line_no (joined_lines xs ys) i ≡ no_line
 joined_past xs ys (pos n) h = get_or_past (joined_lines xs ys) n no_line (omega (arith, ints, length-take 65535 (xs ++ ys)))
 joined_past xs ys (negsuc n) h = refl
+
+pub joined_count : (xs ys : List Line) {a b m : ℤ} → a ≡ pos (length xs) → b ≡ pos (length ys) → m ≡ int_min (a +ℤ b) (pos 65535) → m ≡ pos (length (joined_lines xs ys))
+joined_count xs ys {a} {b} p q e =
+    let t = length-take 65535 (xs ++ ys) in
+    let u = length-append xs ys in
+    let least = int_min_is (a +ℤ b) (pos 65535) in
+    omega (arith, ints)

@@ -3,7 +3,7 @@ use Rattle.std.proofs.Common.{◌≡◌, ℕ, zero, suc, ◌+◌, ◌-◌, ◌*�
 use borrow.Author.Differences.{ints}
 use Rattle.std.proofs.lemmas.Bool.{cond_both, cond-true, lt-ltb, cases_lt}
 use Rattle.std.specs.Int.{saturate_to_bits}
-use Rattle.lines.specs.Lines.{Line, ordinate_or_zero}
+use Rattle.lines.specs.Lines.{Line}
 use Rattle.lines.specs.Cells.{double_area, cell_area, under, areas, block, clip}
 use Rattle.lines.proofs.Bounds.{Mild}
 
@@ -38,10 +38,6 @@ under_small l m p k h = let a = under_bound l m p k in omega arith
 -- the double area of a cell that is there
 pub cell_at : (l : Line) (k : ℕ) → k < l.len → cell_area l (pos k) ≡ double_area l k
 cell_at l k h = cond-true (ltb k l.len) (double_area l k) (pos 0) (lt-ltb k l.len h)
-
-pub cell_on : (l : Line) (k : ℤ) → pos 0 ≤ℤ k → k <ℤ pos l.len → cell_area l k ≡ ordinate_or_zero l k +ℤ ordinate_or_zero l (k +ℤ pos 1)
-cell_on l (pos k) low high = cell_at l k (omega (arith, ints))
-cell_on l (negsuc k) low high = absurd (omega (arith, ints))
 
 -- a place on the stretch, against the one that was clipped
 below_clip : (m : ℕ) (z : ℤ) (k : ℕ) → k < clip m z → pos k <ℤ z

@@ -3,3 +3,4 @@ pub mod Cells
 pub mod Joins
 pub mod Parts
 pub mod Asks
+pub mod Mild

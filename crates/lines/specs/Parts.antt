@@ -1,10 +1,10 @@
--- The line that a part of two joined families names.
-use Rattle.std.specs.Prelude.{List}
+-- The line that a part of two joined families names; none stands in neither.
+use Rattle.std.specs.Prelude.{List, Option, Some, None}
 use Rattle.lines.specs.Lines.{Line, no_line, line_no}
 use Rattle.lines.specs.declared.parts.Part.{Part}
-use Rattle.lines.specs.declared.parts.Part.TheVariants.{First, Second, Neither}
+use Rattle.lines.specs.declared.parts.Part.TheVariants.{First, Second}
 
-abbrev pub line_of : List Line → List Line → Part → Line
-line_of xs ys (First i) = line_no xs i
-line_of xs ys (Second i) = line_no ys i
-line_of xs ys Neither = no_line
+abbrev pub line_of : List Line → List Line → Option Part → Line
+line_of xs ys (Some (First i)) = line_no xs i
+line_of xs ys (Some (Second i)) = line_no ys i
+line_of xs ys None = no_line

@@ -18,16 +18,16 @@ pub struct Joined<F, G> {
 }
 
 impl<F: Family, G: Family> Joined<F, G> {
-    fn part(&self, line: i32) -> Part
+    fn part(&self, line: i32) -> Option<Part>
         ensures { line_no (joined_lines (F.Family.lines self.now.first) (G.Family.lines self.now.second)) line ≡ line_of (F.Family.lines self.now.first) (G.Family.lines self.now.second) result }
     {
         let n = self.first.count();
         if line < n {
-            Part::First(line)
+            Some(Part::First(line))
         } else if line < MOST {
-            Part::Second(line - n)
+            Some(Part::Second(line - n))
         } else {
-            Part::Neither
+            None
         }
     }
 }
@@ -38,31 +38,30 @@ impl<F: Family, G: Family> Family for Joined<F, G> {
     ghost limits = { λ s. joined_limits (F.Family.lines s.first) (G.Family.lines s.second) (F.Family.limits s.first) (G.Family.limits s.second) };
 
     fn count(&self) -> i32 {
-        let n = self.first.count() + self.second.count();
-        if n < MOST { n } else { MOST }
+        (self.first.count() + self.second.count()).min(MOST)
     }
 
     fn length(&self, line: i32) -> i64 {
         match self.part(line) {
-            Part::First(i) => self.first.length(i),
-            Part::Second(i) => self.second.length(i),
-            Part::Neither => 0,
+            Some(Part::First(i)) => self.first.length(i),
+            Some(Part::Second(i)) => self.second.length(i),
+            None => 0,
         }
     }
 
     fn scale(&self, line: i32) -> i64 {
         match self.part(line) {
-            Part::First(i) => self.first.scale(i),
-            Part::Second(i) => self.second.scale(i),
-            Part::Neither => 0,
+            Some(Part::First(i)) => self.first.scale(i),
+            Some(Part::Second(i)) => self.second.scale(i),
+            None => 0,
         }
     }
 
     fn ordinate(&self, line: i32, x: i64) -> i64 {
         match self.part(line) {
-            Part::First(i) => self.first.ordinate(i, x),
-            Part::Second(i) => self.second.ordinate(i, x),
-            Part::Neither => 0,
+            Some(Part::First(i)) => self.first.ordinate(i, x),
+            Some(Part::Second(i)) => self.second.ordinate(i, x),
+            None => 0,
         }
     }
 }

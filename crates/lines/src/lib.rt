@@ -3,6 +3,8 @@
 
 pub mod areas;
 pub mod family;
+pub mod influence_lines;
 pub mod joins;
 pub mod lent;
+pub mod numbered;
 mod parts;

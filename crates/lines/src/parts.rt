@@ -1,9 +1,8 @@
 //! Where a line of two joined families stands.
 
-/// The part that a line number falls in, and the number there.
-#[derive(Clone, Copy)]
+/// The family of the two that a line stands in, and its number there.
+#[derive(Clone, Copy, Debug, PartialEq, Eq)]
 pub(crate) enum Part {
     First(i32),
     Second(i32),
-    Neither,
 }

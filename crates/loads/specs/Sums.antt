@@ -23,6 +23,11 @@ abbrev pub traffic_sum : Line → Loads → List ℤ → List Lane → ℤ
 traffic_sum l t ss [] = pos 0
 traffic_sum l t ss (x ∷ xs) = shared l t ss x +ℤ traffic_sum l t ss xs
 
+-- The three sums of the dead load G and the traffic sum Q; u is the unit of the traffic sum.
+abbrev pub three_sums : ℤ → ℤ → ℤ → List ℤ
+three_sums u g q =
+    (pos 23 *ℤ u *ℤ g +ℤ pos 28 *ℤ q) ∷ ((pos 20 *ℤ u *ℤ g +ℤ pos 28 *ℤ q) ∷ ((pos 20 *ℤ u *ℤ g +ℤ pos 24 *ℤ q) ∷ []))
+
 -- One of the three sums of the dead load G and the traffic sum Q keeps P; u is the unit of the traffic sum.
 abbrev pub OneOfThree : (ℤ → Type 0) → ℤ → ℤ → ℤ → Type 0
 OneOfThree P u g q =

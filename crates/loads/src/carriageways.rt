@@ -12,7 +12,7 @@ pub struct Carriageway {
 }
 
 /// A question that a carriageway is asked.
-#[derive(Clone, Copy)]
+#[derive(Clone, Copy, Debug, PartialEq, Eq)]
 pub enum WidthQuestion {
     /// Is the clear width at most 120?
     Widest,

@@ -2,14 +2,14 @@
 ghost use Rattle.std.specs.Prelude.{◌≤◌};
 
 /// A weight in kN that is spread evenly over a block of so many mm.
-#[derive(Clone, Copy)]
+#[derive(Clone, Copy, Debug, PartialEq, Eq)]
 pub struct Spread {
     pub weight: u16,
     pub length: u16,
 }
 
 /// The figures of a load set, in kN, mm and kN per metre.
-#[derive(Clone, Copy)]
+#[derive(Clone, Copy, Debug, PartialEq, Eq)]
 pub struct Loads {
     /// The single axle.
     pub single: u16,
@@ -30,7 +30,7 @@ pub struct Loads {
 }
 
 /// A group of axles, by its weights from the first axle on.
-#[derive(Clone, Copy)]
+#[derive(Clone, Copy, Debug, PartialEq, Eq)]
 pub enum Group {
     Single,
     Bogie12,

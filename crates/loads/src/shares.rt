@@ -11,7 +11,7 @@ pub struct Shares {
 }
 
 /// A question that shares are asked.
-#[derive(Clone, Copy)]
+#[derive(Clone, Copy, Debug, PartialEq, Eq)]
 pub enum ShareQuestion {
     /// Is there one share for each centre from 0 to the clear width?
     Count,

@@ -1,43 +1,53 @@
 //! The maker of shares, and the share at a centre.
-ghost use Rattle.std.specs.Prelude.{◌≡◌, ℕ, ◌+◌, ◌≤◌, length, Decides, unsigned_abs};
+ghost use Rattle.std.specs.Prelude.{◌≡◌, ◌++◌, Some, codes, ℕ, ◌+◌, ◌≤◌, length, Decides, unsigned_abs};
+ghost use Rattle.std.specs.Fmt.{decimal};
 ghost use Rattle.loads.specs.Shares.{share_number, listed, FairShares, Shared};
 ghost use Rattle.loads.specs.Sums.{share};
 
 use crate::carriageways::Carriageway;
 use crate::shares::{ShareQuestion, Shares};
+use std::error::Error;
+use std::fmt;
 
-impl ShareQuestion {
-    /// The number that a refusal tells.
-    pub fn number(self) -> u8
-        ensures { result ≡ share_number self }
-    {
-        match self {
+/// The number that a refusal tells.
+impl From<ShareQuestion> for u8 {
+    ghost from_gives = { λ question number. number ≡ share_number question };
+
+    fn from(question: ShareQuestion) -> u8 {
+        match question {
             ShareQuestion::Count => 7,
             ShareQuestion::Size => 8,
         }
     }
 }
 
+impl fmt::Display for ShareQuestion {
+    ghost output = { λ question. Some (codes "question " ++ decimal (share_number question)) };
+
+    fn fmt<W: fmt::Write>(&self, f: &mut fmt::Formatter<W>) -> fmt::Result {
+        write!(f, "question {}", u8::from(*self))
+    }
+}
+
+impl Error for ShareQuestion {}
+
 fn are_fair(given: &[i32]) -> bool
     ensures { Decides result (FairShares given.now) }
 {
-    for k in 0..given.len() {
-        let percent = given[k];
-        if percent < -100 || percent > 100 {
-            return false;
-        }
-    }
-    true
+    given
+        .iter()
+        .all(|percent| *percent >= -100 && *percent <= 100)
 }
 
 fn kept(width: u8, given: &[i32]) -> Shares
-    requires { (width ≤ 120) × ((length given.now ≡ width + 1) × (FairShares given.now)) }
-    ensures { (result.width ≡ width) × (listed result ≡ given.now) }
+    requires few { width ≤ 120 }
+    requires each { length given.now ≡ width + 1 }
+    requires fair { FairShares given.now }
+    ensures width { result.width ≡ width }
+    ensures listed { listed result ≡ given.now }
 {
     let mut percents = [0i32; 121];
-    for k in 0..given.len() {
-        percents[k] = given[k];
-    }
+    percents[..given.len()].copy_from_slice(given);
     Shares { width, percents }
 }
 
@@ -61,9 +71,9 @@ impl Shares {
         ensures value { result ≡ share (listed self.now) centre }
         ensures small { unsigned_abs result ≤ 100 }
     {
-        if centre < 0 || centre as usize > self.width as usize {
-            return 0;
+        match usize::try_from(centre) {
+            Ok(k) if k <= self.width as usize => self.percents[k] as i64,
+            _ => 0,
         }
-        self.percents[centre as usize] as i64
     }
 }

@@ -15,8 +15,13 @@ fn row_of(
     train: u16,
     extra: u16,
 ) -> LoadSet
-    requires axles { (single ≤ 200) × ((bogie ≤ 200) × ((triple ≤ 200) × (spacing ≤ 2000))) }
-    requires blocks { (vehicle ≤ 800) × ((train ≤ 800) × (extra ≤ 50)) }
+    requires single { single ≤ 200 }
+    requires bogie { bogie ≤ 200 }
+    requires triple { triple ≤ 200 }
+    requires spacing { spacing ≤ 2000 }
+    requires vehicle { vehicle ≤ 800 }
+    requires train { train ≤ 800 }
+    requires extra { extra ≤ 50 }
     ensures { result.loads ≡ row single bogie triple spacing vehicle train extra }
 {
     let vehicle = Spread {
@@ -41,19 +46,21 @@ fn row_of(
     LoadSet { loads }
 }
 
-impl Class {
-    /// The class number, from 1 to 4.
-    pub fn number(self) -> u8
-        ensures { result ≡ class_number self }
-    {
-        match self {
+/// The class number, from 1 to 4.
+impl From<Class> for u8 {
+    ghost from_gives = { λ class number. number ≡ class_number class };
+
+    fn from(class: Class) -> u8 {
+        match class {
             Class::Bk6 => 1,
             Class::Bk8 => 2,
             Class::BkT8 => 3,
             Class::Bk10 => 4,
         }
     }
+}
 
+impl Class {
     /// The load set that the class names.
     pub fn load_set(self) -> LoadSet
         ensures { result.loads ≡ loads self }

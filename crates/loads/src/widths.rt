@@ -1,21 +1,34 @@
 //! The maker of carriageways.
-ghost use Rattle.std.specs.Prelude.{◌≡◌, ◌≤◌, pos, if◌then◌else◌, unsigned_abs};
+ghost use Rattle.std.specs.Prelude.{◌≡◌, ◌++◌, Some, codes, ◌≤◌, pos, if◌then◌else◌, unsigned_abs};
+ghost use Rattle.std.specs.Fmt.{decimal};
 ghost use Rattle.loads.specs.Widths.{width_number, Widened};
 
 use crate::carriageways::{Carriageway, WidthQuestion};
 use crate::decks::Deck;
+use std::error::Error;
+use std::fmt;
 
-impl WidthQuestion {
-    /// The number that a refusal tells.
-    pub fn number(self) -> u8
-        ensures { result ≡ width_number self }
-    {
-        match self {
+/// The number that a refusal tells.
+impl From<WidthQuestion> for u8 {
+    ghost from_gives = { λ question number. number ≡ width_number question };
+
+    fn from(question: WidthQuestion) -> u8 {
+        match question {
             WidthQuestion::Widest => 1,
             WidthQuestion::Narrowest => 2,
         }
     }
 }
+
+impl fmt::Display for WidthQuestion {
+    ghost output = { λ question. Some (codes "question " ++ decimal (width_number question)) };
+
+    fn fmt<W: fmt::Write>(&self, f: &mut fmt::Formatter<W>) -> fmt::Result {
+        write!(f, "question {}", u8::from(*self))
+    }
+}
+
+impl Error for WidthQuestion {}
 
 impl Carriageway {
     /// A carriageway of this clear width in dm, or the first question that is answered no.

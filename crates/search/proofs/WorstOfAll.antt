@@ -22,7 +22,7 @@ use Rattle.lane_search.specs.declared.reaches.Reach.{Reach}
 use Rattle.lane_search.specs.Places.{Kind, Reaches}
 use Rattle.lane_search.specs.Readings.{Alike}
 use Rattle.search.specs.declared.directions.Direction.TheVariants.{Up, Down}
-use Rattle.search.specs.Fillings.{by_share, added_by, sum_in, place_in, Furthest, Moderate, place_for, lane_at, lane_record, Written}
+use Rattle.search.specs.Fillings.{by_share, added_by, sum_in, place_in, Furthest, place_for, lane_at, lane_record, Written}
 use Rattle.search.specs.Findings.{Found, Reached}
 use Rattle.search.proofs.Optimum.{shared_reach, optimum}
 use Rattle.search.proofs.SameLine.{reaches_alike}
@@ -47,9 +47,9 @@ unused_lanes ss place u [] = tt
 unused_lanes ss place u (x ∷ xs) = (u x.heavy (share ss (pos x.centre)), unused_lanes ss place u xs)
 
 -- a record with the lanes of a layout is in form and stands for the filled layout
-written_form : (ss : List ℤ) (place : Bool → ℤ → LanePlace) (layout : Layout) (r : Record) → ((h : Bool) (c : ℤ) → UnusedPlace (place h c)) → layout.count ≤ 6 → Written (lane_record ss place) layout r → InForm r
-written_form ss place layout r u few w = record {
-  count = subst (λ (n : ℕ). n ≤ 6) (sym w.count) few;
+written_form : (ss : List ℤ) (place : Bool → ℤ → LanePlace) (layout : Layout) (r : Record) → ((h : Bool) (c : ℤ) → UnusedPlace (place h c)) → Written (lane_record ss place) layout r → InForm r
+written_form ss place layout r u w = record {
+  count = subst (λ (n : ℕ). n ≤ 6) (sym w.count) layout.few;
   unused = subst (λ (n : ℕ). AllByRecursion UnusedLane (take n r.lanes)) (sym w.count) (subst (AllByRecursion UnusedLane) (sym w.lanes) (unused_lanes ss place u (slots_of layout)));
   past = subst (λ (n : ℕ). AllByRecursion (λ x. x ≡ blank) (drop n r.lanes)) (sym w.count) w.past;
 }
@@ -66,10 +66,9 @@ pub worst_of_all : {S O : Type 0} {beyond : ℤ → ℤ → Bool} (o : Order bey
     w.width ≤ 120 →
     ((h : Bool) (k : ℕ) → k ≤ 120 → worth ws (record { heavy = h; centre = k }) ≡ added_by (share ss (pos k)) (sum_in on h) (sum_in back h)) →
     Worst beyond (total ws) (LegalLayout w) s (slots_of layout) →
-    layout.count ≤ 6 →
     Written (lane_record ss (place_for on back)) layout r →
     Reached beyond t w l ss s layout.count r
-worst_of_all o l t w ss on back ws s layout r f b wide adds worst few written =
+worst_of_all o l t w ss on back ws s layout r f b wide adds worst written =
     let place : Bool → ℤ → LanePlace = place_for on back in
     let best : Bool → ℤ → ℤ = λ h c. by_share c (sum_in on h) (sum_in back h) in
     let top = optimum o l t w ss best place ws s (slots_of layout)
@@ -79,7 +78,7 @@ worst_of_all o l t w ss on back ws s layout r f b wide adds worst few written =
     let is = written_lanes l t ss place layout r written in
     record {
       accepted = record {
-        form = written_form ss place layout r (λ h c. unused_either c (place_in on h) (place_in back h) (f h).unused (b h).unused) few written;
+        form = written_form ss place layout r (λ h c. unused_either c (place_in on h) (place_in back h) (f h).unused (b h).unused) written;
         legal = subst (Legal t w) (sym is) top.within;
       };
       reached = top.reached ∙ ap (traffic_sum l t ss) (sym is);
@@ -111,7 +110,3 @@ both_kinds l t r a b false = b
 -- the same on a line that is like the one that was read
 pub both_alike : {S : Type 0} {beyond : ℤ → ℤ → Bool} (l m : Line) (t : Loads) (r : Reach S) → Alike l m → Reaches beyond l t (Kind t true) r.heavy.sum r.heavy.place → Reaches beyond l t (Kind t false) r.light.sum r.light.place → Furthest beyond m t r
 both_alike l m t r alike a b h = reaches_alike l m t h (sum_in r h) (place_in r h) alike (both_kinds l t r a b h)
-
-pub both_moderate : {S : Type 0} {beyond : ℤ → ℤ → Bool} (l : Line) (t : Loads) (r : Reach S) → Reaches beyond l t (Kind t true) r.heavy.sum r.heavy.place → Reaches beyond l t (Kind t false) r.light.sum r.light.place → Moderate r
-both_moderate l t r a b true = a.small
-both_moderate l t r a b false = b.small

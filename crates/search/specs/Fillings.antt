@@ -1,5 +1,5 @@
 -- Layouts that are filled with loads.
-use Rattle.std.specs.Prelude.{◌≡◌, ◌≤◌, Bool, cond, List, map, take, drop, ℤ, pos, negsuc, ◌*ℤ◌, unsigned_abs}
+use Rattle.std.specs.Prelude.{◌≡◌, Bool, cond, List, map, take, drop, ℤ, pos, negsuc, ◌*ℤ◌}
 use Rattle.std.specs.List.{AllByRecursion}
 use Rattle.lines.specs.Lines.{Line}
 use Rattle.loads.specs.declared.load_sets.Loads.{Loads}
@@ -34,10 +34,6 @@ place_in r heavy = cond heavy r.heavy.place r.light.place
 -- In both kinds of lane the loads go furthest.
 abbrev pub Furthest : {S : Type 0} → (ℤ → ℤ → Bool) → Line → Loads → Reach S → Type 0
 Furthest beyond l t r = (h : Bool) → Reaches beyond l t (Kind t h) (sum_in r h) (place_in r h)
-
--- No effect is larger than one can be.
-abbrev pub Moderate : {S : Type 0} → Reach S → Type 0
-Moderate r = (h : Bool) → unsigned_abs (sum_in r h) ≤ 330000000000000
 
 -- The place for a kind of lane and the share at its centre.
 abbrev pub place_for : {S O : Type 0} → Reach S → Reach O → Bool → ℤ → LanePlace

@@ -4,16 +4,17 @@ ghost use Rattle.lines.specs.Lines.{Line, line_no};
 ghost use Rattle.loads.specs.declared.load_sets.Loads.{Loads};
 ghost use Rattle.loads.specs.Shares.{listed};
 ghost use Rattle.lane_search.specs.Readings.{line_read, Alike};
-ghost use Rattle.search.specs.Fillings.{Furthest, Moderate};
+ghost use Rattle.search.specs.Fillings.{Furthest};
 ghost use Rattle.search.specs.Findings.{Found, Reached};
 
 use crate::directions::Direction;
-use crate::fillings::{worths_of, write};
+use crate::fillings::Filling;
 use deck_search::layout_search::worst_layout;
 use keeper::senses::{Down, Sense, Up};
-use lane_search::reaches::{Reach, furthest_loads};
+use lane_search::reaches::furthest_loads;
 use lane_search::samples::Sample;
 use lines::family::Family;
+use lines::numbered::Numbered;
 use loads::carriageways::Carriageway;
 use loads::load_sets::LoadSet;
 use loads::shares::Shares;
@@ -22,18 +23,13 @@ use traffic::records::Record;
 // Of all legal arrangements the one whose sum goes furthest, from the furthest loads of a lane that way and the other way; on any line and for any load set that they are the furthest of.
 fn across<S: Sense, O>(
     carriageway: &Carriageway,
-    shares: &Shares,
-    on: &Reach<S>,
-    back: &Reach<O>,
+    filling: &Filling<S, O>,
     found: &mut Record,
 ) -> (i64, u8)
-    requires on { Moderate on.now }
-    requires back { Moderate back.now }
-    ensures { (l : Line) (t : Loads) → Furthest S.beyond l t on.now → Furthest (λ (a b : ℤ). S.beyond b a) l t back.now → Reached S.beyond t carriageway.now.deck l (listed shares.now) result.0 result.1 found.new }
+    ensures { (l : Line) (t : Loads) → Furthest S.beyond l t filling.now.on.now → Furthest (λ (a b : ℤ). S.beyond b a) l t filling.now.back.now → Reached S.beyond t carriageway.now.deck l (listed filling.now.shares.now) result.0 result.1 found.new }
 {
-    let worths = worths_of(shares, on, back);
-    let worst = worst_layout::<S>(carriageway, &worths);
-    write(shares, on, back, &worst.place, found);
+    let worst = worst_layout::<S>(carriageway, &filling.worths());
+    filling.write(&worst.place, found);
     (worst.sum, worst.place.count)
 }
 
@@ -49,12 +45,29 @@ pub fn worst<F: Family>(
 ) -> (i64, u8)
     ensures { Found direction set.now.loads carriageway.now.deck (line_no (F.lines family.now) line) (listed shares.now) result.0 result.1 found.new }
 {
-    let sample = Sample::of(family, line);
+    let sample = Sample::of(&Numbered {
+        family,
+        number: line,
+    });
     let up = furthest_loads::<Up>(&sample, set);
     let down = furthest_loads::<Down>(&sample, set);
     match direction {
-        Direction::Up => across::<Up, Down>(carriageway, shares, &up, &down, found),
-        Direction::Down => across::<Down, Up>(carriageway, shares, &down, &up, found),
+        Direction::Up => {
+            let filling = Filling {
+                shares,
+                on: &up,
+                back: &down,
+            };
+            across(carriageway, &filling, found)
+        }
+        Direction::Down => {
+            let filling = Filling {
+                shares,
+                on: &down,
+                back: &up,
+            };
+            across(carriageway, &filling, found)
+        }
     }
 }
 
@@ -72,7 +85,17 @@ pub fn worst_each_way(
 {
     let rising = furthest_loads::<Up>(sample, set);
     let falling = furthest_loads::<Down>(sample, set);
-    let most = across::<Up, Down>(carriageway, shares, &rising, &falling, up);
-    let least = across::<Down, Up>(carriageway, shares, &falling, &rising, down);
+    let upwards = Filling {
+        shares,
+        on: &rising,
+        back: &falling,
+    };
+    let downwards = Filling {
+        shares,
+        on: &falling,
+        back: &rising,
+    };
+    let most = across(carriageway, &upwards, up);
+    let least = across(carriageway, &downwards, down);
     (most, least)
 }

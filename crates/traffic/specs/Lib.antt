@@ -1,4 +1,3 @@
 pub mod Records
 pub mod Sets
-pub mod Tests
 pub mod Figures

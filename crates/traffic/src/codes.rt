@@ -5,12 +5,12 @@ ghost use Rattle.traffic.specs.Records.{code_number, sign_number};
 use crate::records::{Code, Sign};
 use loads::load_sets::Group;
 
-impl Code {
-    /// The load code, from 0 to 8.
-    pub fn number(self) -> u8
-        ensures { result ≡ code_number self }
-    {
-        match self {
+/// The load code, from 0 to 8.
+impl From<Code> for u8 {
+    ghost from_gives = { λ code n. n ≡ code_number code };
+
+    fn from(code: Code) -> Self {
+        match code {
             Code::Light => 0,
             Code::Axles(Group::Single) => 1,
             Code::Axles(Group::Bogie12) => 2,
@@ -24,12 +24,12 @@ impl Code {
     }
 }
 
-impl Sign {
-    /// The p sign: -1, 0 or 1.
-    pub fn number(self) -> i8
-        ensures { result ≡ sign_number self }
-    {
-        match self {
+/// The p sign: -1, 0 or 1.
+impl From<Sign> for i8 {
+    ghost from_gives = { λ sign n. n ≡ sign_number sign };
+
+    fn from(sign: Sign) -> Self {
+        match sign {
             Sign::Below => -1,
             Sign::None => 0,
             Sign::Above => 1,

@@ -1,205 +1,165 @@
 //! Whether a record is in form, and what it stands for is legal.
-ghost use Rattle.std.specs.Prelude.{◌≡◌, ◌≤◌, true, drop, pos, Decides, unsigned_abs};
+ghost use Rattle.std.specs.Prelude.{◌≡◌, ◌≤◌, ◌↔◌, IsTrue, true, map, pos, unsigned_abs};
+ghost use Rattle.std.specs.List.{AllByRecursion};
 ghost use Rattle.lines.specs.Lines.{Line};
-ghost use Rattle.loads.specs.Decks.{half, past};
-ghost use Rattle.traffic.specs.Records.{Accepted};
-ghost use Rattle.traffic.specs.Tests.{heavy_code, left_of, right_of, within_test, start_test, on_block_test, placed_test, zero_test, no_sign_test, light_test, unused_test, used_right_test, zeros_test, blank_test, all_test, apart_test, heavy_count, lanes_test, accepted_test};
+ghost use Rattle.loads.specs.Decks.{heavy, left_side, right_side, past, Within, Apart, heavies, Start, OnBlock, Placed, Legal};
+ghost use Rattle.traffic.specs.Records.{lane_of, Unused, blank, InForm, Accepted};
 
 use crate::records::{Code, LaneRecord, Record, Sign};
 use loads::carriageways::Carriageway;
 use loads::decks::Deck;
+use loads::lane_widths::{half_width, past_edge};
 use loads::load_sets::{LoadSet, Loads};
 
-fn is_heavy(code: Code) -> bool
-    ensures { result ≡ heavy_code code }
-{
-    match code {
-        Code::Light => false,
-        Code::Axles(_) => true,
-        Code::Vehicle => true,
-        Code::Train => true,
-    }
-}
-
-fn is_light(code: Code) -> bool
-    ensures { result ≡ light_test code }
-{
-    match code {
-        Code::Light => true,
-        Code::Axles(_) => false,
-        Code::Vehicle => false,
-        Code::Train => false,
-    }
-}
-
-fn is_none(sign: Sign) -> bool
-    ensures { result ≡ no_sign_test sign }
-{
-    match sign {
-        Sign::None => true,
-        Sign::Above => false,
-        Sign::Below => false,
-    }
-}
-
-fn is_zero(z: i32) -> bool
-    ensures { result ≡ zero_test z }
-{
-    z >= 0 && z <= 0
-}
-
-// Half the width of a lane.
-fn half_of(heavy: bool) -> i64
-    ensures value { result ≡ pos (half heavy) }
-    ensures small { unsigned_abs result ≤ 15 }
-{
-    if heavy { 15 } else { 10 }
-}
-
-// How far a lane may reach past an edge.
-fn past_edge(heavy: bool, raised: bool) -> i64
-    ensures value { result ≡ pos (past heavy raised) }
-    ensures small { unsigned_abs result ≤ 2 }
-{
-    if heavy && raised { 2 } else { 0 }
-}
-
-fn left(x: &LaneRecord) -> i64
-    ensures { result ≡ left_of x.now }
-{
-    x.centre as i64 - half_of(is_heavy(x.code))
-}
-
-fn right(x: &LaneRecord) -> i64
-    ensures { result ≡ right_of x.now }
-{
-    x.centre as i64 + half_of(is_heavy(x.code))
-}
-
-fn is_within(w: Deck, x: &LaneRecord) -> bool
-    ensures { result ≡ within_test w x.now }
-{
-    let heavy = is_heavy(x.code);
-    -past_edge(heavy, w.left) <= left(x) && right(x) <= w.width as i64 + past_edge(heavy, w.right)
-}
-
 fn is_start(a: i32) -> bool
-    ensures { result ≡ start_test a }
+    ensures { IsTrue result ↔ (Start a) }
 {
-    a >= -16_000 && a <= 100_000
+    (-16_000..=100_000).contains(&a)
 }
 
-fn is_on_block(a: i32, len: u16, z: i32) -> bool
-    ensures { result ≡ on_block_test a len z }
-{
-    a <= z && z as i64 <= a as i64 + len as i64
-}
-
-fn is_placed(t: Loads, code: Code, a: i32, z: i32) -> bool
-    ensures { result ≡ placed_test t code a z }
-{
-    match code {
-        Code::Light => true,
-        Code::Axles(_) => is_start(a),
-        Code::Vehicle => is_start(a) && is_on_block(a, t.vehicle.length, z),
-        Code::Train => is_start(a) && is_on_block(a, t.train.length, z),
+impl LaneRecord {
+    fn is_heavy(&self) -> bool
+        ensures { (l : Line) (t : Loads) → result ≡ heavy (lane_of l t self.now).load }
+    {
+        self.code != Code::Light
     }
-}
 
-fn is_unused(code: Code, a: i32, z: i32, sign: Sign) -> bool
-    ensures { result ≡ unused_test code a z sign }
-{
-    match code {
-        Code::Light => is_zero(a) && is_zero(z),
-        Code::Axles(_) => is_zero(z) && is_none(sign),
-        Code::Vehicle => is_none(sign),
-        Code::Train => true,
+    fn left(&self) -> i64
+        ensures { (l : Line) (t : Loads) → result ≡ left_side (lane_of l t self.now) }
+    {
+        self.centre as i64 - half_width(self.is_heavy()) as i64
     }
-}
 
-fn is_used_right(t: Loads, w: Deck, x: &LaneRecord) -> bool
-    ensures { result ≡ used_right_test t w x.now }
-{
-    is_unused(x.code, x.a, x.z, x.sign) && is_within(w, x) && is_placed(t, x.code, x.a, x.z)
-}
+    fn right(&self) -> i64
+        ensures { (l : Line) (t : Loads) → result ≡ right_side (lane_of l t self.now) }
+    {
+        self.centre as i64 + half_width(self.is_heavy()) as i64
+    }
 
-fn is_zeros(x: &LaneRecord) -> bool
-    ensures { result ≡ zeros_test x.now }
-{
-    is_zero(x.centre) && is_zero(x.a) && is_zero(x.z)
-}
+    // How far a lane may reach past an edge.
+    fn reach(&self, raised: bool) -> i64
+        ensures value { (l : Line) (t : Loads) → result ≡ pos (past (heavy (lane_of l t self.now).load) raised) }
+        ensures small { unsigned_abs result ≤ 255 }
+    {
+        past_edge(self.is_heavy(), raised) as i64
+    }
 
-fn is_blank(x: &LaneRecord) -> bool
-    ensures { result ≡ blank_test x.now }
-{
-    is_zeros(x) && is_light(x.code) && is_none(x.sign)
-}
+    fn is_within(&self, deck: Deck) -> bool
+        ensures { (l : Line) (t : Loads) → IsTrue result ↔ (Within deck (lane_of l t self.now)) }
+    {
+        -self.reach(deck.left) <= self.left()
+            && self.right() <= deck.width as i64 + self.reach(deck.right)
+    }
 
-fn all_right(t: Loads, w: Deck, lanes: &[LaneRecord]) -> bool
-    ensures { result ≡ all_test (used_right_test t w) lanes.now }
-{
-    for x in lanes {
-        if !is_used_right(t, w, x) {
-            return false;
+    // Whether A lies on the block or its ends.
+    fn is_on_block(&self, length: u16) -> bool
+        ensures { IsTrue result ↔ (OnBlock self.now.a length self.now.z) }
+    {
+        self.a <= self.z && self.z as i64 <= self.a as i64 + length as i64
+    }
+
+    fn has_block(&self, length: u16) -> bool
+        ensures { IsTrue result ↔ (Start self.now.a × OnBlock self.now.a length self.now.z) }
+    {
+        is_start(self.a) && self.is_on_block(length)
+    }
+
+    #[tactic(auto, using(crate::proofs::Deciding::off_block))]
+    fn is_placed(&self, loads: &Loads) -> bool
+        ensures { (l : Line) → IsTrue result ↔ (Placed loads.now (lane_of l loads.now self.now).load) }
+    {
+        match self.code {
+            Code::Light => true,
+            Code::Axles(_) => is_start(self.a),
+            Code::Vehicle => self.has_block(loads.vehicle.length),
+            Code::Train => self.has_block(loads.train.length),
         }
     }
-    true
-}
 
-fn all_blank(lanes: &[LaneRecord], from: usize) -> bool
-    ensures { result ≡ all_test blank_test (drop from lanes.now) }
-{
-    for i in from..lanes.len() {
-        if !is_blank(&lanes[i]) {
-            return false;
+    fn is_blank(&self) -> bool
+        ensures { IsTrue result ↔ (self.now ≡ blank) }
+    {
+        *self == LaneRecord::BLANK
+    }
+
+    // Whether each unused field is 0.
+    fn is_unused_zero(&self) -> bool
+        ensures { IsTrue result ↔ (Unused self.now.code self.now.a self.now.z self.now.sign) }
+    {
+        match self.code {
+            Code::Light => self.a == 0 && self.z == 0,
+            Code::Axles(_) => self.z == 0 && self.sign == Sign::None,
+            Code::Vehicle => self.sign == Sign::None,
+            Code::Train => true,
         }
     }
-    true
+}
+
+fn all_within(deck: Deck, lanes: &[LaneRecord]) -> bool
+    ensures { (l : Line) (t : Loads) → IsTrue result ↔ (AllByRecursion (Within deck) (map (lane_of l t) lanes.now)) }
+{
+    lanes.iter().all(|x| x.is_within(deck))
+}
+
+// Whether each lane ends where the next one begins, or before.
+fn are_apart(lanes: &[LaneRecord]) -> bool
+    ensures { (l : Line) (t : Loads) → IsTrue result ↔ (Apart (map (lane_of l t) lanes.now)) }
+{
+    lanes.is_sorted_by(|x, y| x.right() <= y.left())
 }
 
 fn count_heavy(lanes: &[LaneRecord]) -> usize
-    ensures { result ≡ heavy_count lanes.now }
+    ensures { (l : Line) (t : Loads) → result ≡ heavies (map (lane_of l t) lanes.now) }
 {
-    let mut n = 0;
-    for x in lanes {
-        if is_heavy(x.code) {
-            n += 1;
-        }
-    }
-    n
+    lanes.iter().filter(|x| x.is_heavy()).count()
 }
 
-fn are_apart(lanes: &[LaneRecord]) -> bool
-    ensures { result ≡ apart_test lanes.now }
+fn all_placed(loads: &Loads, lanes: &[LaneRecord]) -> bool
+    ensures { (l : Line) → IsTrue result ↔ (AllByRecursion (λ x. Placed loads.now x.load) (map (lane_of l loads.now) lanes.now)) }
 {
-    for i in 1..lanes.len() {
-        if right(&lanes[i - 1]) > left(&lanes[i]) {
-            return false;
-        }
-    }
-    true
+    lanes.iter().all(|x| x.is_placed(loads))
 }
 
-fn are_right(t: Loads, w: Deck, lanes: &[LaneRecord]) -> bool
-    ensures { result ≡ lanes_test t w lanes.now }
+fn are_legal(loads: &Loads, deck: Deck, lanes: &[LaneRecord]) -> bool
+    ensures { (l : Line) → IsTrue result ↔ (Legal loads.now deck (map (lane_of l loads.now) lanes.now)) }
 {
-    all_right(t, w, lanes) && are_apart(lanes) && count_heavy(lanes) <= 2
+    all_within(deck, lanes)
+        && are_apart(lanes)
+        && count_heavy(lanes) <= 2
+        && all_placed(loads, lanes)
 }
 
-fn is_accepted(t: Loads, w: Deck, given: &Record) -> bool
-    ensures { result ≡ accepted_test t w given.now }
+fn all_unused_zero(lanes: &[LaneRecord]) -> bool
+    ensures { IsTrue result ↔ (AllByRecursion (λ x. Unused x.code x.a x.z x.sign) lanes.now) }
+{
+    lanes.iter().all(|x| x.is_unused_zero())
+}
+
+fn all_blank(lanes: &[LaneRecord]) -> bool
+    ensures { IsTrue result ↔ (AllByRecursion (λ x. x ≡ blank) lanes.now) }
+{
+    lanes.iter().all(|x| x.is_blank())
+}
+
+fn is_in_form(given: &Record) -> bool
+    ensures { IsTrue result ↔ (InForm given.now) }
 {
     if given.count > 6 {
         return false;
     }
-    let n = given.count as usize;
-    are_right(t, w, &given.lanes[..n]) && all_blank(&given.lanes, n)
+    let (used, past) = given.lanes.split_at(given.count as usize);
+    all_unused_zero(used) && all_blank(past)
 }
 
 /// Whether a record is in form and legal. The answer does not hang on the line, though p does.
-pub fn legal(set: &LoadSet, w: &Carriageway, given: &Record) -> bool
-    ensures decides { (l : Line) → Decides result (Accepted set.now.loads w.now.deck l given.now) }
+pub fn legal(set: &LoadSet, carriageway: &Carriageway, given: &Record) -> bool
+    ensures decides { (l : Line) → IsTrue result ↔ (Accepted set.now.loads carriageway.now.deck l given.now) }
     ensures few { result ≡ true → given.now.count ≤ 6 }
 {
-    is_accepted(set.loads, w.deck, given)
+    is_in_form(given)
+        && are_legal(
+            &set.loads,
+            carriageway.deck,
+            &given.lanes[..given.count as usize],
+        )
 }

@@ -7,5 +7,4 @@ pub mod effects;
 pub mod figures;
 pub mod legal;
 pub mod records;
-mod sets;
 pub mod sums;

@@ -2,7 +2,7 @@
 use loads::load_sets::Group;
 
 /// What a lane carries, by its load code.
-#[derive(Clone, Copy)]
+#[derive(Clone, Copy, Debug, PartialEq, Eq)]
 pub enum Code {
     /// Code 0: p alone.
     Light,
@@ -15,14 +15,16 @@ pub enum Code {
 }
 
 /// Which allowed cells p fills: none, those with a double area above 0, or those below 0.
-#[derive(Clone, Copy)]
+#[derive(Clone, Copy, Debug, PartialEq, Eq)]
 pub enum Sign {
     None,
     Above,
     Below,
 }
 
-#[derive(Clone, Copy)]
+/// A lane: where it lies, and what it carries. A field that its code does not use is 0.
+// Each code has all the fields, since a caller may fill any of them: whether the unused are 0 is a question of `legal`.
+#[derive(Clone, Copy, Debug, PartialEq, Eq)]
 pub struct LaneRecord {
     /// The lane's centre, in dm from the left edge of the clear width.
     pub centre: i32,
@@ -34,9 +36,29 @@ pub struct LaneRecord {
     pub sign: Sign,
 }
 
+impl LaneRecord {
+    /// What stands past the lanes of an arrangement.
+    pub const BLANK: LaneRecord = LaneRecord {
+        centre: 0,
+        code: Code::Light,
+        a: 0,
+        z: 0,
+        sign: Sign::None,
+    };
+}
+
 /// The lanes of an arrangement from left to right: the first `count` of six.
-#[derive(Clone, Copy)]
+// A fixed array with a count, since nothing allocates; a caller may give any count, which `legal` judges.
+#[derive(Clone, Copy, Debug, PartialEq, Eq)]
 pub struct Record {
     pub count: u8,
     pub lanes: [LaneRecord; 6],
+}
+
+impl Record {
+    /// The arrangement without lanes.
+    pub const EMPTY: Record = Record {
+        count: 0,
+        lanes: [LaneRecord::BLANK; 6],
+    };
 }

@@ -5,9 +5,8 @@ use Rattle.deck_search.proofs.layout_search.worst_layout.Goals as goal
 
 pub returns : goal.returns
 returns g c =
-    let first = c.loop-most.invariant.0 (omega arith) 0 _ (omega arith) (omega arith) in
+    let first = c.loop-most.invariant.fewer (omega arith) 0 _ (omega arith) (omega arith) in
     record {
       worst = worst_legal c.args.carriageway.now.deck (c.loop-most.most - 1) (omega arith) first.worst;
-      few = first.few;
       small = sum_small c.args.carriageway.now.deck c.args.worths.now _ _ _ _ c.args.carriageway.now.widest first;
     }

@@ -1,76 +1,67 @@
-use Rattle.std.proofs.Common.{get_or, ℤ, pos, negsuc, ◌+ℤ◌, ◌*ℤ◌, ap, ◌∙◌, arith, w64, SFits, rules}
+use Rattle.std.proofs.Common.{◌≡◌, ◌+◌, ◌*◌, min, length, pos, negsuc, ◌+ℤ◌, ◌-ℤ◌, ◌∙◌, arith, length-take, take, add-one, w64, SFits, to_z, of_z, rules}
+use Rattle.std.proofs.Math.Nat.{suc-mul}
 use Rattle.std.proofs.lemmas.Int.{ints, to_z-of_z}
-use Rattle.lane_search.specs.Samples.{sampled}
-use Rattle.lane_search.proofs.Rows.{peak_small}
-use Rattle.lane_search.proofs.Sampled.{tame_mild}
-use Rattle.lane_search.proofs.Pairs.{scan_first, scan_turn}
+use Rattle.lane_search.specs.Readings.{line_read}
+use Rattle.lane_search.proofs.Sampled.{read_short}
+use Rattle.lane_search.proofs.Rows.{row_below, rows_above, row_front}
+use Rattle.lane_search.proofs.Pairs.{pair_first}
 use Rattle.lane_search.proofs.PastLine.{begun_past}
 use Rattle.lane_search.proofs.blocks.block_start.Goals as goal
 
-pub laden_at-requires : goal.laden_at-requires
-laden_at-requires g c =
-    let fall = c.ranges.all in
-    let h : SFits w64 (get_or c.best_tops.new.tops 0 (pos 0)) = search rules in
-    record {
-      sized = simp to_z-of_z c.requires.sized;
-      moderate = c.requires.moderate;
-      near = record { low = omega (arith, ints); high = omega (arith, ints) };
-      small = simp to_z-of_z (peak_small _ _ _ _ _ (tame_mild _ c.requires.tame) (c.best_tops.ensures 0 (omega arith)));
-    }
-
-pub loop-start-init : goal.loop-start-init
-loop-start-init g c =
-    let fall = c.ranges.all in
+pub loop-row-init : goal.loop-row-init
+loop-row-init g c =
+    let first = c.furthest_place-first in
+    let h : SFits w64 first.result.sum = search rules in
     let f : SFits w64 c.laden_at.result = search rules in
-    let h : SFits w64 (get_or c.best_tops.new.tops 0 (pos 0)) = search rules in
-    let y = get_or c.best_tops.new.tops 0 (pos 0) in (
-      scan_first g.S.Sense.order (sampled c.args.ys.now) c.args.load _ 0 _ _
-          (omega arith) (omega arith) c.best_tops.ensures
-          (simp to_z-of_z at c.new-worst.ensures.sum ∙ simp to_z-of_z at c.laden_at.ensures ∙ ap (λ (r : ℤ). pos c.args.load.extra *ℤ y +ℤ r) (c.requires.rest (negsuc 15999)))
-          c.new-worst.ensures.place,
-      omega (arith, ints),
-    )
+    let n = length c.args.tops.now in
+    let starts = c.end-starts.result + 15999 in
+    let e : pos (min (0 * n) starts) -ℤ pos 15999 ≡ negsuc 15998 = omega (arith, ints) in
+    rw e (pair_first g.S.Sense.order (line_read c.args.weighed.now.sample.now) c.args.weighed.now.load _ _ _ (record { place = first.result.place; furthest = first.ensures })
+    (simp to_z-of_z at c.new-worst.ensures.sum ∙ simp to_z-of_z at c.laden_at.ensures) c.new-worst.ensures.place)
 
-pub row_at-at-requires : goal.row_at-at-requires
-row_at-at-requires g c =
-    let fewer = c.requires.moderate.length in
+pub overflow_sub-from : goal.overflow_sub-from
+overflow_sub-from g c =
+    let short = c.args.weighed.now.sample.now.short in
+    let lt = row_below c.loop-row.row (length c.args.tops.now) (c.end-starts.result + 15999) (omega arith) (omega arith) in
+    omega (arith, ints)
+
+pub best_tops-requires : goal.best_tops-requires
+best_tops-requires g c =
+    let short = c.args.weighed.now.sample.now.short in
+    let lt = row_below c.loop-row.row (length c.args.tops.now) (c.end-starts.result + 15999) (omega arith) (omega arith) in
+    record { low = omega (arith, ints); high = omega (arith, ints) }
+
+pub offer_row-requires : goal.offer_row-requires
+offer_row-requires g c =
+    let short = c.args.weighed.now.sample.now.short in
+    let row = c.loop-row.row in
+    let n = length c.args.tops.now in
+    let starts = c.end-starts.result + 15999 in
+    let lt = row_below row n starts (omega arith) (omega arith) in
+    let from : to_z w64 (of_z w64 (to_z w64 (row * n) -ℤ pos 15999)) ≡ pos (min (row * n) starts) -ℤ pos 15999 = omega (arith, ints) in
+    let few = length-take c.min-on_line.result c.best_tops.new.tops in
     record {
-      tame = c.requires.tame;
-      near = record { low = omega (arith, ints); high = omega (arith, ints) };
-      some = omega arith;
-      few = omega arith;
-      full = λ _. c.loop-start.invariant.0.5;
+      low = omega (arith, ints);
+      high = omega (arith, ints);
+      tops = row_front _ _ _ _ _ _ c.best_tops.ensures (omega arith);
+      before = rw from c.loop-row.invariant;
     }
 
-pub laden_at-requires-in-loop-start : goal.laden_at-requires-in-loop-start
-laden_at-requires-in-loop-start g c =
-    let fall = c.ranges.all in
-    let h : SFits w64 (get_or c.row_at-at.new.tops c.row_at-at.result (pos 0)) = search rules in
-    record {
-      sized = simp to_z-of_z c.requires.sized;
-      moderate = c.requires.moderate;
-      near = record { low = omega (arith, ints); high = omega (arith, ints) };
-      small = simp to_z-of_z (peak_small _ _ _ _ _ (tame_mild _ c.requires.tame) (c.row_at-at.ensures.full c.row_at-at.result c.row_at-at.ensures.within));
-    }
-
-pub overflow_step-start : goal.overflow_step-start
-overflow_step-start g c = omega (arith, ints)
-
-pub loop-start-preserved : goal.loop-start-preserved
-loop-start-preserved g c =
-    let fall = c.ranges.all in
-    let f : SFits w64 c.laden_at-in-loop-start.result = search rules in
-    let h : SFits w64 (get_or c.row_at-at.new.tops c.row_at-at.result (pos 0)) = search rules in
-    let y = get_or c.row_at-at.new.tops c.row_at-at.result (pos 0) in (
-      scan_turn g.S.Sense.order (sampled c.args.ys.now) c.args.load _ _ _ _ _ _ _ _ _ _ _
-          c.loop-start.invariant.0 (omega (arith, ints)) (omega (arith, ints))
-          c.row_at-at.ensures.within (omega arith) c.row_at-at.ensures.full
-          (simp to_z-of_z at c.laden_at-in-loop-start.ensures ∙ ap (λ (r : ℤ). pos c.args.load.extra *ℤ y +ℤ r) (c.requires.rest _)) (simp to_z-of_z at c.offer.ensures.sum) (simp to_z-of_z at c.offer.ensures.place),
-      omega (arith, ints),
-    )
+pub loop-row-preserved : goal.loop-row-preserved
+loop-row-preserved g c =
+    let short = c.args.weighed.now.sample.now.short in
+    let row = c.loop-row.row in
+    let n = length c.args.tops.now in
+    let starts = c.end-starts.result + 15999 in
+    let lt = row_below row n starts (omega arith) (omega arith) in
+    let few = length-take c.min-on_line.result c.best_tops.new.tops in
+    let more : (row + 1) * n ≡ row * n + n = rw add-one (suc-mul row n) in
+    let e : to_z w64 (of_z w64 (to_z w64 (row * n) -ℤ pos 15999)) +ℤ pos (length (take c.min-on_line.result c.best_tops.new.tops)) ≡ pos (min ((row + 1) * n) starts) -ℤ pos 15999 = omega (arith, ints) in
+    rw e at c.offer_row.ensures
 
 pub returns : goal.returns
 returns g c =
-    let some = c.requires.tame.some in
-    let short = c.requires.tame.short in
-    begun_past g.S.Sense.beyond (sampled c.args.ys.now) c.args.load _ _ _ c.requires.moderate.length (omega (arith, ints)) (omega (arith, ints)) c.loop-start.invariant.0.0
+    let short = c.args.weighed.now.sample.now.short in
+    let len = read_short c.args.weighed.now.sample.now in
+    let all = rows_above c.loop-row.row (length c.args.tops.now) (c.end-starts.result + 15999) (omega arith) (omega arith) in
+    begun_past g.S.Sense.beyond (line_read c.args.weighed.now.sample.now) c.args.weighed.now.load _ _ _ c.args.weighed.now.load.length_limit (omega (arith, ints)) (omega (arith, ints)) c.loop-row.invariant

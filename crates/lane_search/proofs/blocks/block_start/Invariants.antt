@@ -1,9 +1,7 @@
-use Rattle.std.proofs.Common.{length, pos, ◌≤ℤ◌}
-use Rattle.lane_search.specs.Samples.{sampled}
-use Rattle.lane_search.proofs.Pairs.{Scanning}
+use Rattle.std.proofs.Common.{◌*◌, min, pos, ◌-ℤ◌}
+use Rattle.lane_search.specs.Readings.{line_read}
+use Rattle.lane_search.specs.Blocks.{Begun}
 use Rattle.lane_search.proofs.blocks.block_start.Given as goal
 
-abbrev pub invariant-loop-start : goal.invariant-loop-start
-invariant-loop-start g l =
-    Scanning g.S.Sense.beyond (sampled l.ys) l.load l.tops l.at l.start l.worst.sum l.worst.place
-    × (l.start ≤ℤ pos (length l.ys))
+abbrev pub invariant-loop-row : goal.invariant-loop-row
+invariant-loop-row g l = Begun g.S.Sense.beyond (line_read l.weighed.sample.now) l.weighed.load (pos (min (l.row * l.length) l.starts) -ℤ pos 15999) l.worst.sum l.worst.place

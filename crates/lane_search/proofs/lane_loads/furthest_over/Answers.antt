@@ -1,44 +1,37 @@
-use Rattle.std.proofs.Common.{◌+◌, ◌-◌, ◌<◌, ◌≤◌, length, get_or, pos, nat_abs, mul-le-mul, arith, length-take, w64, SFits, rules}
-use Rattle.std.proofs.lemmas.Int.{to_z-of_z}
-use Rattle.lane_search.proofs.Sampled.{tame_mild}
-use Rattle.lane_search.proofs.Totals.{running_sized}
+use Rattle.std.proofs.Common.{◌≤◌, pos, ◌*ℤ◌, nat_abs, ap, ◌∙◌, mul-le-mul, arith, w32, w64, SFits, rules}
+use Rattle.std.proofs.lemmas.Int.{ints, to_z-of_z}
+use Rattle.lane_search.proofs.Sampled.{read_mild}
+use Rattle.lane_search.proofs.RunningSums.{running_sized}
 use Rattle.lane_search.proofs.Pairs.{rest_is, weighted_sized}
 use Rattle.lane_search.proofs.lane_loads.furthest_over.Goals as goal
 
-pub weigh_sums-requires : goal.weigh_sums-requires
-weigh_sums-requires g c =
-    let m = tame_mild _ c.requires.tame in
+pub invariant_of-weighed : goal.invariant_of-weighed
+invariant_of-weighed g c =
+    let t = c.args.totals.now in
+    let m = read_mild t.sample.now in
+    let xs = running_sized _ _ _ m t.all_cells in
+    let gs = running_sized _ _ _ m t.helping_cells in
+    let p = mul-le-mul c.args.load.lane_limit c.help.ensures.small in
+    let f : SFits w64 c.help.result = search rules in
+    let r : SFits w64 c.times.result = search rules in
+    let s = simp to_z-of_z at c.times.ensures.small in
+    let few : nat_abs c.times.result ≤ 134400000000000 = omega arith in
+    let v = simp to_z-of_z at c.times.ensures.value ∙ ap (λ v. pos c.args.load.lane *ℤ v) c.help.ensures.value in
     record {
-      areas = running_sized _ _ _ m c.requires.areas;
-      helps = running_sized _ _ _ m c.requires.helps;
-      long = (omega (arith, c.requires.areas.long, c.requires.helps.long), c.requires.rows.0);
-      moderate = c.requires.moderate;
+      sized = weighted_sized c.args.load _ _ _ xs gs (omega (arith, t.all_cells.long, t.helping_cells.long)) c.weigh_sums.ensures;
+      few = simp to_z-of_z few;
+      beside_axle = λ x. simp to_z-of_z (rest_is g.S.Sense.beyond _ c.args.load _ _ _ c.times.result x t.all_cells t.helping_cells c.weigh_sums.ensures v);
     }
 
-pub times-all-requires : goal.times-all-requires
-times-all-requires g c =
-    let sized = running_sized _ _ _ (tame_mild _ c.requires.tame) c.requires.helps in
-    let lt : length c.args.areas.now - 1 < length c.args.helps.now = omega (arith, c.requires.areas.long, c.requires.helps.long) in
-    let p = mul-le-mul c.requires.moderate.lane (sized.small (length c.args.areas.now - 1) lt) in
-    let f : SFits w64 (get_or c.args.helps.now (length c.args.areas.now - 1) (pos 0)) = search rules in
-    simp to_z-of_z (omega arith)
-
-pub furthest_block-requires : goal.furthest_block-requires
-furthest_block-requires g c =
-    let m = tame_mild _ c.requires.tame in
-    let xs = running_sized _ _ _ m c.requires.areas in
-    let gs = running_sized _ _ _ m c.requires.helps in
-    let lt : length c.args.areas.now - 1 < length c.args.helps.now = omega (arith, c.requires.areas.long, c.requires.helps.long) in
-    let p = mul-le-mul c.requires.moderate.lane (gs.small (length c.args.areas.now - 1) lt) in
-    let f : SFits w64 (get_or c.args.helps.now (length c.args.areas.now - 1) (pos 0)) = search rules in
-    let t : SFits w64 c.times-all.result = search rules in
-    let s = simp to_z-of_z at c.times-all.ensures.small in
-    let few : nat_abs c.times-all.result ≤ 134400000000000 = omega arith in
-    let v = simp to_z-of_z at c.times-all.ensures.value in
-    record {
-      tame = c.requires.tame;
-      sized = (weighted_sized c.args.load _ _ _ c.requires.moderate xs gs (omega (arith, c.requires.areas.long, c.requires.helps.long)) c.weigh_sums.ensures, simp to_z-of_z few);
-      rest = λ x. simp to_z-of_z (rest_is g.S.Sense.beyond _ c.args.load _ _ _ c.times-all.result x c.requires.areas c.requires.helps c.weigh_sums.ensures v);
-      moderate = c.requires.moderate;
-      row = omega (arith, length-take (c.args.load.length + 1 - 0) c.args.tops.now, c.requires.rows.1, c.requires.moderate.length);
-    }
+pub returns-clause-furthest : goal.returns-clause-furthest
+returns-clause-furthest g c =
+    let on = c.furthest_block-found.ensures.within in
+    let few = c.args.load.length_limit in
+    let fs : SFits w64 c.furthest_block-found.result.sum = search rules in
+    let fa : SFits w64 c.furthest_block-found.result.place.0 = search rules in
+    let fz : SFits w64 c.furthest_block-found.result.place.1 = search rules in
+    let ga : SFits w32 c.furthest_block-found.result.place.0 = omega (arith, ints) in
+    let gz : SFits w32 c.furthest_block-found.result.place.1 = omega (arith, ints) in
+    let e = simp to_z-of_z at c.new.ensures.place in
+    let s = simp to_z-of_z at c.new.ensures.sum in
+    rw (e, s) c.furthest_block-found.ensures

@@ -1,7 +1,7 @@
 use Rattle.std.proofs.Common.{◌⊎◌, inl, inr, w64, SFits, rules}
 use Rattle.std.proofs.lemmas.Int.{to_z-of_z}
 use Rattle.loads.specs.Loads.{Load}
-use Rattle.lane_search.specs.Samples.{sampled}
+use Rattle.lane_search.specs.Readings.{line_read}
 use Rattle.lane_search.specs.Places.{OfAxles, OfVehicle}
 use Rattle.lane_search.proofs.Reaching.{reaches_join, axles_heavy, vehicle_heavy, train_heavy, heavy_kinds}
 use Rattle.lane_search.proofs.reaches.furthest_heavy.Goals as goal
@@ -9,7 +9,7 @@ use Rattle.lane_search.proofs.reaches.furthest_heavy.Goals as goal
 pub returns : goal.returns
 returns g c =
     let o = g.S.Sense.order in
-    let l = sampled c.args.ys.now in
+    let l = line_read c.args.totals.now.sample.now in
     let t = c.args.set.now.loads in
     let P : Load → Type 0 = λ x. OfAxles x ⊎ OfVehicle t x in
     let fv : SFits w64 c.furthest_vehicle-vehicle.result.sum = search rules in

@@ -1,27 +1,23 @@
 use Rattle.std.proofs.Common.{◌≡◌, ℕ, ◌<◌, ◌≤◌, pos, ◌+ℤ◌, nat_abs, sym, ap, ◌∙◌, arith, w64, SFits, rules}
 use borrow.Author.Differences.{ints}
 use Rattle.std.proofs.lemmas.Int.{to_z-of_z, to_z_pos}
-use Rattle.lines.specs.Lines.{line_no}
 use Rattle.lines.specs.Cells.{under, block, clip}
-use Rattle.lines.proofs.Bounds.{mild}
 use Rattle.lines.proofs.UnderCells.{block_none, block_more, block_all, cell_at, under_small, clip_high, clip_mono, block_small}
 use Rattle.lines.proofs.areas.double_areas.Goals as goal
 
 pub loop-k-init : goal.loop-k-init
 loop-k-init g c =
     let fa = c.ranges.a in
-    let line = line_no (g.F.Family.lines c.args.f.now) c.args.line in
-    let fl = c.ranges.line in
+    let line = g.L.InfluenceLine.line c.args.line.now in
     let fn : SFits w64 c.length-n.result = search rules in
     let e : c.clipped-from.result ≡ clip (nat_abs c.length-n.result) c.args.a = grind (arith, to_z-of_z) in
     simp to_z-of_z (block_none line c.args.a c.args.len _ ∙ ap (under line (block c.args.a c.args.len)) (sym e))
 
 pub overflow_add-sum : goal.overflow_add-sum
 overflow_add-sum g c =
-    let fl = c.ranges.line in
     let fa = c.ranges.a in
     let fn : SFits w64 c.length-n.result = search rules in
-    let m = mild _ (g.F.Family.limits c.args.f.now) c.args.line in
+    let m = g.L.InfluenceLine.mild c.args.line.now in
     let i = simp (to_z-of_z, c.loop-k.sum-is) at c.loop-k.invariant in
     let e = simp to_z-of_z at c.clipped_end-to.ensures in
     let h = clip_high (nat_abs c.length-n.result) (c.args.a +ℤ pos c.args.len) in
@@ -31,13 +27,12 @@ overflow_add-sum g c =
 
 pub loop-k-preserved : goal.loop-k-preserved
 loop-k-preserved g c =
-    let fl = c.ranges.line in
     let fa = c.ranges.a in
     let fn : SFits w64 c.length-n.result = search rules in
     let fr : SFits w64 c.double_area-sum.result = search rules in
-    let line = line_no (g.F.Family.lines c.args.f.now) c.args.line in
-    let m = mild _ (g.F.Family.limits c.args.f.now) c.args.line in
-    let n : nat_abs c.length-n.result ≡ line.len = ap nat_abs (simp to_z-of_z at c.length-n.ensures.value) in
+    let line = g.L.InfluenceLine.line c.args.line.now in
+    let m = g.L.InfluenceLine.mild c.args.line.now in
+    let n : nat_abs c.length-n.result ≡ line.len = ap nat_abs (c.length-n.ensures.value) in
     let i = simp (to_z-of_z, c.loop-k.sum-is) at c.loop-k.invariant in
     let from = simp to_z-of_z at c.clipped-from.ensures in
     let to = simp to_z-of_z at c.clipped_end-to.ensures in
@@ -53,12 +48,11 @@ loop-k-preserved g c =
 
 pub returns : goal.returns
 returns g c =
-    let fl = c.ranges.line in
     let fa = c.ranges.a in
     let fn : SFits w64 c.length-n.result = search rules in
-    let line = line_no (g.F.Family.lines c.args.f.now) c.args.line in
-    let m = mild _ (g.F.Family.limits c.args.f.now) c.args.line in
-    let n : nat_abs c.length-n.result ≡ line.len = ap nat_abs (simp to_z-of_z at c.length-n.ensures.value) in
+    let line = g.L.InfluenceLine.line c.args.line.now in
+    let m = g.L.InfluenceLine.mild c.args.line.now in
+    let n : nat_abs c.length-n.result ≡ line.len = ap nat_abs (c.length-n.ensures.value) in
     let i = simp (to_z-of_z, c.loop-k.sum-is) at c.loop-k.invariant in
     let from = simp to_z-of_z at c.clipped-from.ensures in
     let to' = simp to_z-of_z at c.clipped_end-to.ensures in

@@ -1,7 +1,6 @@
 use Rattle.std.proofs.Common.{◌≡◌}
-use Rattle.lines.specs.Lines.{line_no}
 use Rattle.lines.specs.Cells.{under, block}
 use Rattle.lines.proofs.areas.double_areas.Given as goal
 
 abbrev pub invariant-loop-k : goal.invariant-loop-k
-invariant-loop-k g l = l.sum ≡ under (line_no (g.F.Family.lines l.f) l.line) (block l.a l.len) l.k
+invariant-loop-k g l = l.sum ≡ under (g.L.InfluenceLine.line l.line) (block l.a l.len) l.k

@@ -1,8 +1,8 @@
-use Rattle.std.proofs.Common.{pos, ◌+ℤ◌, neg_ℤ, ap, ◌∙◌, w32, SFits, rules}
+use Rattle.std.proofs.Common.{◌*ℤ◌, ◌<ℤ◌, pos, ◌+ℤ◌, neg_ℤ, ap, ◌∙◌, w32, SFits, rules}
 use lib.IntN.{+ℤ_idl}
 use mir.Syntax.{w128}
 use Rattle.std.proofs.lemmas.Int.{to_z-of_z}
-use Rattle.loads.proofs.Judging.{below_given}
+use Rattle.loads.proofs.Judging.{given}
 use Rattle.loads.proofs.Sizes.{fits_negative}
 use Rattle.loads.proofs.overloads.is_below_down.Goals as goal
 
@@ -15,5 +15,6 @@ returns-in-Some c =
     let fr : SFits w128 c.units.result = search rules in
     let fn : SFits w128 (pos 0 +ℤ neg_ℤ c.units.result) = fits_negative c.units.result c.units.ensures.small in
     let e = simp to_z-of_z at c.units.ensures.value in
+    let all = simp to_z-of_z at c.sums_of.ensures in
     let d = simp to_z-of_z at c.is_below.ensures in
-    below_given c.is_below.result c.args.figures.now c.args.u c.args.q (pos 0 +ℤ neg_ℤ c.units.result) c.in-Some.capacity c.in-Some.is (+ℤ_idl (neg_ℤ c.units.result) ∙ ap neg_ℤ e) d
+    given (λ b s. s <ℤ b) (λ k. neg_ℤ (pos 20 *ℤ c.args.u *ℤ k)) _ _ c.args.u c.args.figures.now.dead c.args.q _ _ _ c.in-Some.is (+ℤ_idl (neg_ℤ c.units.result) ∙ ap neg_ℤ e) all d

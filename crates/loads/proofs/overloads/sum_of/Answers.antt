@@ -4,12 +4,6 @@ use Rattle.std.proofs.lemmas.Int.{to_z-of_z}
 use Rattle.loads.proofs.Sizes.{fits_wide}
 use Rattle.loads.proofs.overloads.sum_of.Goals as goal
 
-pub overflow_add-result : goal.overflow_add-result
-overflow_add-result c =
-    let fx : SFits w128 c.units.result = search rules in
-    let fy : SFits w128 c.wide.result = search rules in
-    simp to_z-of_z (fits_wide c.units.result c.wide.result c.units.ensures.small c.wide.ensures.small)
-
 pub returns : goal.returns
 returns c =
     let fg = c.ranges.g in

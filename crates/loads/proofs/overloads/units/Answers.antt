@@ -5,20 +5,13 @@ use Rattle.std.proofs.lemmas.Int.{to_z-of_z}
 use Rattle.lines.proofs.Products.{product_small}
 use Rattle.loads.proofs.overloads.units.Goals as goal
 
-pub overflow_mul-factor : goal.overflow_mul-factor
-overflow_mul-factor c =
-    let ff = c.ranges.factor in
-    let fu = c.ranges.u in
-    let p = product_small c.args.factor c.args.u 23 22400000000 c.requires.0 c.requires.1 in
-    simp to_z-of_z (omega (arith, ints))
-
 pub returns : goal.returns
 returns c =
     let ff = c.ranges.factor in
     let fu = c.ranges.u in
     let fo = c.ranges.force in
     let go : SFits w64 c.args.force = omega (arith, ints) in
-    let p = product_small c.args.factor c.args.u 23 22400000000 c.requires.0 c.requires.1 in
+    let p = product_small c.args.factor c.args.u 23 22400000000 c.requires.factor c.requires.unit in
     let fp : SFits w64 (c.args.factor *ℤ c.args.u) = omega (arith, ints) in
     let fr : SFits w128 c.wide.result = search rules in
     let v = simp to_z-of_z at c.wide.ensures.value in

@@ -8,5 +8,6 @@ pub returns : goal.returns
 returns g c l t on back =
     let fs : SFits w64 c.worst_layout-worst.result.sum = search rules in
     let found = c.worst_layout-worst in
-    simp to_z-of_z (worst_of_all g.S.Sense.order l t c.args.carriageway.now.deck (listed c.args.shares.now) c.args.on.now c.args.back.now c.worths_of-worths.result
-    found.result.sum found.result.place c.write.new.found on back c.args.carriageway.now.widest c.worths_of-worths.ensures found.ensures.worst found.ensures.few c.write.ensures)
+    let by = c.args.filling.now in
+    simp to_z-of_z (worst_of_all g.S.Sense.order l t c.args.carriageway.now.deck (listed by.shares.now) by.on.now by.back.now c.worths.result
+    found.result.sum found.result.place c.write.new.found on back c.args.carriageway.now.widest c.worths.ensures found.ensures.worst c.write.ensures)

@@ -1,7 +1,12 @@
-use Rattle.std.proofs.Common.{◌≡◌}
-use Rattle.lines.specs.Lines.{line_no}
-use Rattle.traffic.proofs.PSums.{sum_to}
+use Rattle.std.proofs.Common.{◌≡◌, ℕ, Bool, ◌*◌, ◌≤◌, nat_abs}
+use Rattle.lines.specs.Cells.{under}
+use Rattle.traffic.specs.Sets.{Takes}
 use Rattle.traffic.proofs.cells.areas_of.Given as goal
 
 abbrev pub invariant-loop-k : goal.invariant-loop-k
-invariant-loop-k g l = l.sum ≡ sum_to (line_no (g.F.Family.lines l.family) l.line) l.cells l.k
+invariant-loop-k g l =
+    let line = g.L.InfluenceLine.line l.line in
+    record {
+      value : (set : ℕ → Bool) → Takes line (goal.T-post g l.takes) set → l.sum ≡ under line set l.k;
+      small : nat_abs l.sum ≤ l.k * 2000000;
+    }

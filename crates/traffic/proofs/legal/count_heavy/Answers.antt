@@ -1,18 +1,10 @@
-use Rattle.std.proofs.Common.{arith}
-use Rattle.traffic.proofs.Loops.{heavy_step, heavy_end}
+use Rattle.std.proofs.Common.{◌≡◌, count_by, sym, ◌∙◌, rules}
+use Rattle.loads.specs.Decks.{heavy}
+use Rattle.traffic.specs.Records.{lane_of}
+use Rattle.traffic.proofs.Deciding.{heavies_is}
 use Rattle.traffic.proofs.legal.count_heavy.Goals as goal
-use Rattle.traffic.proofs.legal.count_heavy.Goals.{then-is_heavy, else-is_heavy}
-
-pub loop-x-preserved : goal.loop-x-preserved
-loop-x-preserved c =
-    elim c.if-is_heavy.branch [
-      | then-is_heavy w ↦
-          let s = heavy_step c.args.lanes.now _ _ _ _ c.loop-x-test.true c.loop-x.invariant.0 w.if-is_heavy.ensures in
-          (omega (arith, w.n-is), omega (arith, w.n-is))
-      | else-is_heavy w ↦
-          let s = heavy_step c.args.lanes.now _ _ _ _ c.loop-x-test.true c.loop-x.invariant.0 w.if-is_heavy.ensures in
-          (omega (arith, w.n-is), omega (arith, w.n-is))
-    ]
 
 pub returns : goal.returns
-returns c = heavy_end c.args.lanes.now _ _ c.loop-x-test.false c.loop-x.invariant.0
+returns c l t =
+    let e : c.count.result ≡ count_by (λ x. heavy (lane_of l t x).load) c.args.lanes.now = search rules in
+    e ∙ sym (heavies_is l t c.args.lanes.now)

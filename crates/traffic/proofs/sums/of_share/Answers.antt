@@ -4,13 +4,6 @@ use Rattle.std.proofs.lemmas.Int.{to_z-of_z}
 use Rattle.lines.proofs.Products.{product_small}
 use Rattle.traffic.proofs.sums.of_share.Goals as goal
 
-pub overflow_mul-result : goal.overflow_mul-result
-overflow_mul-result c =
-    let fp = c.ranges.percent in
-    let fe = c.ranges.effect in
-    let p = product_small c.args.percent c.args.effect 100 330000000000000 c.requires.part c.requires.small in
-    simp to_z-of_z (omega (arith, ints))
-
 pub returns : goal.returns
 returns c =
     let fp = c.ranges.percent in
