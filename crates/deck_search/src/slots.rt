@@ -9,7 +9,7 @@ use loads::decks::Deck;
 use loads::lane_widths::{half_width, past_edge};
 
 impl Slot {
-    // Whether a lane there keeps within the width that it may use.
+    // Whether a lane there keeps within the width that it may use. The same rule is asked of a record in wider numbers, since its centre may be any; here a byte holds the centre.
     pub(crate) fn fits(self, deck: Deck) -> bool
         ensures { result ≡ keeps deck self }
     {

@@ -17,6 +17,7 @@ pub(crate) fn rows_of<T: Head>(heads: &[T]) -> u64
     sum
 }
 
+// Heads and rows are two parameters until they are checked, since no type can say more of them before.
 // Whether there are at most 16 heads and their counts add up to the rows.
 fn adds_up<T: Head>(heads: &[T], rows: &[T::Row]) -> bool
     ensures { Decides result (Counted T.taken heads.now rows.now) }

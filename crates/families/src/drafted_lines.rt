@@ -28,7 +28,7 @@ pub struct DraftedLines<'a, T: Head> {
     ghost right: { AllYes (questions T.taken T.draft heads.now rows.now) } by { AllYes-prop T.taken T.draft T.enough_prop heads.now rows.now },
 }
 
-// A derive would ask that heads are Copy, and does not cover a ghost field.
+// By hand: neither `derive` nor `derive_where`, which were tried, takes `Clone` beside this ghost field.
 impl<'a, T: Head> Copy for DraftedLines<'a, T> {}
 
 impl<'a, T: Head> Clone for DraftedLines<'a, T> {

@@ -29,6 +29,7 @@ pub trait Head {
     fn first_no(&self, own: &[Self::Row]) -> Option<Question>
         ensures { Found (draft self.now own.now) result };
 
+    // The three below ask that the questions are answered yes; a type of head and rows that keeps it could not be what a head's own method takes.
     /// The length of a line whose questions are answered yes.
     fn length(&self, own: &[Self::Row]) -> i64
         requires { Found (draft self.now own.now) None }

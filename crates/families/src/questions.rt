@@ -34,6 +34,7 @@ impl From<Question> for u32 {
 }
 
 /// The first question that is answered no, and the head that it was asked of (0 for `Rows`).
+// A refusal tells two numbers, the second 0 where no head is to blame, so an `Option` would be no plainer.
 #[derive(Clone, Copy, Debug, PartialEq, Eq)]
 pub struct Refusal {
     pub question: Question,

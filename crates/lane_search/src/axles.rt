@@ -9,20 +9,21 @@ ghost use Rattle.lane_search.specs.Readings.{line_read};
 
 use crate::places::LanePlace;
 use crate::samples::Sample;
+use crate::weighed::times;
 use keeper::keepers::Keeper;
 use keeper::senses::Sense;
 use loads::load_sets::{Group, LoadSet};
 use traffic::effects::axle_weights;
 use traffic::records::{Code, Sign};
 
-// An axle's weight times the ordinate under it.
+// An axle's weight times the ordinate under it. That an ordinate is no larger stays a clause: a type for it would be wrapped at each reading.
 fn weighed(weight: u16, y: i64) -> i64
     requires light { weight ≤ 200 }
     requires small { unsigned_abs y ≤ 1000000 }
     ensures value { result ≡ pos weight *ℤ y }
     ensures small { unsigned_abs result ≤ 200000000 }
 {
-    weight as i64 * y
+    times(weight as u32, y)
 }
 
 // The axles of a group as three weights, with 0 for an axle that it has not, and how far each stands from the next.
@@ -111,6 +112,7 @@ fn furthest_start<S: Sense>(sample: &Sample, axles: Axles) -> Keeper<S, i64>
     offer_starts(best, |a| axles.at(sample, a), inner, end as i64)
 }
 
+// The sample and the set stay two parameters, as in the call: no fact ties them, and of a struct of both each clause would name longer paths.
 // Of the starts of one group, the one whose effect goes furthest.
 fn of_group<S: Sense>(sample: &Sample, set: &LoadSet, group: Group) -> Keeper<S, LanePlace>
     ensures { Reaches S.beyond (line_read sample.now) set.now.loads (OfGroup group) result.sum result.place }

@@ -65,6 +65,7 @@ fn furthest_over<S: Sense>(
     Keeper::new(found.sum, place)
 }
 
+// Sums, set and work stay parameters here and below: no fact ties them, and the work is lent to one search after the other.
 // Of all vehicles, the one whose effect goes furthest.
 pub(crate) fn furthest_vehicle<S: Sense>(
     totals: &Totals<'_, S>,

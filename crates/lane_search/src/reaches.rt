@@ -24,7 +24,7 @@ pub struct Reach<S> {
     ghost light_limit: { unsigned_abs light.sum ≤ 330000000000000 },
 }
 
-// By hand: beside a ghost field `Clone` is not derived for a type with a parameter.
+// By hand: neither `derive` nor `derive_where`, which were tried, takes `Clone` beside a ghost field of a type with a parameter.
 impl<S> Copy for Reach<S> {}
 
 impl<S> Clone for Reach<S> {
@@ -58,6 +58,7 @@ pub fn furthest_loads<S: Sense>(sample: &Sample, set: &LoadSet) -> Reach<S>
     ensures heavy { Reaches S.beyond (line_read sample.now) set.now.loads (Kind set.now.loads true) result.heavy.sum result.heavy.place }
     ensures light { Reaches S.beyond (line_read sample.now) set.now.loads (Kind set.now.loads false) result.light.sum result.light.place }
 {
+    // As long as the longest line, since nothing here takes memory from the heap.
     let mut all = [Total { area: 0, help: 0 }; 100_001];
     let firsts = &mut all[0..sample.end()];
     add_up::<S>(sample, firsts);

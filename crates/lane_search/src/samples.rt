@@ -5,7 +5,7 @@ ghost use Rattle.lines.specs.Lines.{Line, ordinate_or_zero};
 use lines::influence_lines::InfluenceLine;
 
 /// The ordinates of an influence line at 0 .. length, read once, so that a search need not ask the line again.
-// An array of a fixed size, since nothing here takes memory from the heap; the length stands beside it.
+// An array of a fixed size, since nothing here takes memory from the heap; the length stands beside it, and a vector of a fixed capacity would be no plainer, since it is filled from its start by pushes.
 #[derive(Drop)]
 pub struct Sample {
     pub(crate) length: u32,
@@ -56,6 +56,7 @@ impl Sample {
         self.ordinates[x] as i64
     }
 
+    // Like those of an influence line, but a sample is none, since it has no scale, and `on` needs no tests.
     // The double area of the cell from a place on the line to the next.
     pub(crate) fn double_area(&self, k: usize) -> i64
         requires { k ≤ self.now.length }

@@ -1,6 +1,7 @@
 //! The sums over the first cells of a line.
 ghost use Rattle.std.specs.Prelude.{◌≡◌, ◌≤◌, pos, ◌+ℤ◌, if◌then◌else◌, unsigned_abs};
 
+use crate::windows::further_of;
 use keeper::senses::Sense;
 
 /// The double areas of the first cells of a line: of all of them, and of those that help.
@@ -16,7 +17,7 @@ fn help_of<S: Sense>(area: i64) -> i64
     ensures value { result ≡ (if S.beyond area (pos 0) then area else pos 0) }
     ensures small { unsigned_abs result ≤ 2000000 }
 {
-    if S::further(area, 0) { area } else { 0 }
+    further_of::<S>(area, 0)
 }
 
 impl Total {

@@ -13,7 +13,7 @@ use crate::totals::Totals;
 use keeper::senses::Sense;
 use std::marker::PhantomData;
 
-// A factor times an ordinate or an area.
+// A factor times an ordinate or an area. The effects of a record have a twin: one for both would be a public call that asks a bound of its callers.
 pub(crate) fn times(factor: u32, y: i64) -> i64
     requires { factor * unsigned_abs y ≤ 9000000000000000000 }
     ensures value { result ≡ pos factor *ℤ y }
@@ -35,7 +35,7 @@ pub(crate) fn weigh_sums<S: Sense>(totals: &Totals<'_, S>, load: BlockLoad, sums
     requires { length sums.old ≡ length totals.now.firsts.now }
     ensures { Weighted load (areas_of totals.now.firsts.now) (helps_of totals.now.firsts.now) sums.new }
 {
-    // Not a `zip`: the check knows nothing of what it wrote through `iter_mut`.
+    // Not a `zip` with the totals, which was tried: no invariant can name what it writes.
     for (k, sum) in sums.iter_mut().enumerate() {
         *sum = weighed_sum(load, totals.firsts[k]);
     }

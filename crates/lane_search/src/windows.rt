@@ -16,7 +16,7 @@ fn fill_back<S: Sense>(sample: &Sample, from: i64, tops: &mut [i64])
 {
     let last = from + tops.len() as i64 - 1;
     let mut best: Keeper<S, i64> = Keeper::new(sample.at(last), last);
-    // By index: the check knows nothing of what a reversed `iter_mut` wrote.
+    // By index: over `iter_mut().enumerate().rev()`, which was tried, no invariant can name the row.
     for at in (0..tops.len()).rev() {
         let place = from + at as i64;
         best.offer(sample.at(place), place);
@@ -24,8 +24,8 @@ fn fill_back<S: Sense>(sample: &Sample, from: i64, tops: &mut [i64])
     }
 }
 
-// The new ordinate where it goes further than the old one; else the old one.
-fn further_of<S: Sense>(new: i64, old: i64) -> i64
+// The new ordinate where it goes further than the old one; else the old one. Not `max`: a sense is no order of a type.
+pub(crate) fn further_of<S: Sense>(new: i64, old: i64) -> i64
     ensures { result ≡ further_of S.beyond new old new old }
 {
     if S::further(new, old) { new } else { old }
@@ -47,6 +47,7 @@ fn join_ahead<S: Sense>(sample: &Sample, from: i64, tops: &mut [i64])
 }
 
 // A start is a plain number with a clause, here and where it is weighed: a type for it is no plainer, since each loop would wrap every number it counts.
+// Sample, start and row stay parameters: the start is another one each time, and the row is lent to two writers in turn.
 // For each start of a row that begins at `from`, the furthest ordinate in the window from that start on, which is as long as the row.
 pub(crate) fn best_tops<S: Sense>(sample: &Sample, from: i64, tops: &mut [i64])
     requires { Start from }

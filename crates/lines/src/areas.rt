@@ -35,6 +35,7 @@ fn clipped_end(a: i64, len: u32, n: i64) -> u32
     clipped(a.saturating_add(len as i64), n)
 }
 
+// A loop, since no chain's sum of signed numbers comes with its bounds.
 /// The double areas of a line's cells from a on, len of them: those from a to a + len.
 pub fn double_areas<L: InfluenceLine>(line: &L, a: i64, len: u32) -> i64
     ensures value { result ≡ areas (L.line line.now) (block a len) }

@@ -26,6 +26,7 @@ pub trait Family {
         ensures value { result ≡ pos (line_no (lines self.now) line).scale }
         ensures small { unsigned_abs result ≤ 1000 };
 
+    // A number and a place are two parameters here, since a family is asked about any of its lines; with one line in hand take `Numbered`.
     /// The ordinate of a line at x mm.
     fn ordinate(&self, line: i32, x: i64) -> i64
         ensures value { result ≡ ordinate_or_zero (line_no (lines self.now) line) x }

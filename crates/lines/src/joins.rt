@@ -41,6 +41,7 @@ impl<F: Family, G: Family> Family for Joined<F, G> {
         (self.first.count() + self.second.count()).min(MOST)
     }
 
+    // Each answer is asked of one of two types, so no closure serves all three.
     fn length(&self, line: i32) -> i64 {
         match self.part(line) {
             Some(Part::First(i)) => self.first.length(i),

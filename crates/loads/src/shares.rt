@@ -2,6 +2,7 @@
 ghost use Rattle.std.specs.Prelude.{ℕ, ◌≤◌, pos, slice_index_or, unsigned_abs};
 
 /// A member's shares of the effect of a lane, in percent, for the lane's centres from 0 to the clear width.
+// A fixed array, since nothing here allocates; the width beside it says how many of its shares are given.
 #[derive(Clone, Copy)]
 pub struct Shares {
     pub(crate) width: u8,

@@ -34,9 +34,7 @@ impl Error for ShareQuestion {}
 fn are_fair(given: &[i32]) -> bool
     ensures { Decides result (FairShares given.now) }
 {
-    given
-        .iter()
-        .all(|percent| *percent >= -100 && *percent <= 100)
+    given.iter().all(|percent| (-100..=100).contains(percent))
 }
 
 fn kept(width: u8, given: &[i32]) -> Shares

@@ -20,6 +20,7 @@ impl From<WidthQuestion> for u8 {
     }
 }
 
+// As for shares, since an impl is of one type, and none here is written by a macro.
 impl fmt::Display for WidthQuestion {
     ghost output = { λ question. Some (codes "question " ++ decimal (width_number question)) };
 

@@ -33,6 +33,7 @@ fn across<S: Sense, O>(
     (worst.sum, worst.place.count)
 }
 
+// The arrangement goes into the caller's record, since nothing here allocates; the answer is its sum and its number of lanes.
 /// The worst legal arrangement on a line of a family, upwards or downwards: its sum and its number of lanes; the arrangement is written into `found`.
 pub fn worst<F: Family>(
     family: &F,
@@ -51,6 +52,7 @@ pub fn worst<F: Family>(
     });
     let up = furthest_loads::<Up>(&sample, set);
     let down = furthest_loads::<Down>(&sample, set);
+    // A caller has the direction as a value; inside it is a type, and here the one becomes the other.
     match direction {
         Direction::Up => {
             let filling = Filling {

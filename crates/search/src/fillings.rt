@@ -103,7 +103,7 @@ impl<S, O> Filling<'_, S, O> {
         ensures { Written (lane_record (listed self.now.shares.now) (place_for self.now.on.now self.now.back.now)) layout.now found.new }
     {
         let mut lanes = Record::EMPTY.lanes;
-        // By index: after a zip of the lanes with the slots nothing is known of what was written.
+        // Not a `zip` of the lanes with the slots, which was tried: no invariant can name what it writes.
         for (i, slot) in layout.slots().iter().enumerate() {
             lanes[i] = self.filled(*slot);
         }

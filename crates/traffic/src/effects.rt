@@ -11,7 +11,7 @@ use lines::areas::double_areas;
 use lines::influence_lines::InfluenceLine;
 use loads::load_sets::{Group, LoadSet, Spread};
 
-// A weight times an ordinate or an area.
+// A weight times an ordinate or an area. The search of a lane has a twin: one for both would be a public call that asks a bound of its callers.
 fn times(weight: u32, y: i64) -> i64
     requires { weight * unsigned_abs y ≤ 4000000000000000000 }
     ensures value { result ≡ pos weight *ℤ y }
@@ -20,7 +20,7 @@ fn times(weight: u32, y: i64) -> i64
     weight as i64 * y
 }
 
-// V over its block from a on.
+// V over its block from a on. The limits of a spread and of A stand in the load set's type: a `Spread` that kept them would ask more of whoever makes one. The sizes of answers stay clauses, each being of another value.
 fn of_spread<L: InfluenceLine>(line: &L, spread: Spread, a: i32) -> i64
     requires long { 0 < spread.length }
     requires light { spread.weight ≤ 800 }
@@ -60,10 +60,11 @@ fn of_axle<L: InfluenceLine>(line: &L, weight: u16, x: i64) -> i64
 }
 
 /// The weights of a group's axles in a load set, with 0 for an axle that it has not.
-// The bounds stay one clause, since proofs above this crate take them by its name.
 pub fn axle_weights(set: &LoadSet, group: Group) -> (u16, u16, u16)
     ensures value { result ≡ padded (weights set.now.loads group) }
-    ensures small { (result.0 ≤ 200) × ((result.1 ≤ 200) × (result.2 ≤ 200)) }
+    ensures first { result.0 ≤ 200 }
+    ensures second { result.1 ≤ 200 }
+    ensures third { result.2 ≤ 200 }
 {
     let loads = &set.loads;
     match group {
@@ -77,7 +78,7 @@ pub fn axle_weights(set: &LoadSet, group: Group) -> (u16, u16, u16)
 }
 
 // The weights of a group times the ordinates at its axles, the first at a.
-// Here and below the line and the set stay two parameters: of a struct of both each clause would name longer paths.
+// Here and below the line, the set and what stands where stay parameters: of a struct of them each clause would name longer paths.
 fn at_axles<L: InfluenceLine>(line: &L, set: &LoadSet, group: Group, a: i64) -> i64
     requires { unsigned_abs a ≤ 4294967296 }
     ensures value { result ≡ at_axles (L.line line.now) set.now.loads.spacing a (weights set.now.loads group) }

@@ -58,6 +58,7 @@ impl LaneRecord {
         self.a <= self.z && self.z as i64 <= self.a as i64 + length as i64
     }
 
+    // Whether a block of so many mm starts where it may, and A lies on it.
     fn has_block(&self, length: u16) -> bool
         ensures { IsTrue result ↔ (Start self.now.a × OnBlock self.now.a length self.now.z) }
     {

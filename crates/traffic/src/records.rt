@@ -15,6 +15,7 @@ pub enum Code {
 }
 
 /// Which allowed cells p fills: none, those with a double area above 0, or those below 0.
+// Three signs with numbers of their own, 0, 1 and -1, so `None` is one of them, and an `Option` of two is no plainer.
 #[derive(Clone, Copy, Debug, PartialEq, Eq)]
 pub enum Sign {
     None,

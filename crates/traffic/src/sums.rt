@@ -22,6 +22,7 @@ fn of_share(percent: i64, effect: i64) -> i64
     percent * effect
 }
 
+// Line, set and shares stay parameters, as in the call: of a struct of them each clause would name longer paths.
 fn shared_effect<L: InfluenceLine>(
     line: &L,
     set: &LoadSet,

@@ -5,6 +5,12 @@ use Rattle.std.proofs.lemmas.Int.{to_z-of_z, to_z_pos}
 use Rattle.traffic.proofs.AxleSums.{axles_are, parts_are}
 use Rattle.traffic.proofs.effects.at_axles.Goals as goal
 
+pub overflow_add-result : goal.overflow_add-result
+overflow_add-result g c =
+    let fy : SFits w64 c.of_axle-2.result = search rules in
+    let fz : SFits w64 c.of_axle-3.result = search rules in
+    simp to_z-of_z (omega (arith, ints))
+
 pub overflow_add-result-2 : goal.overflow_add-result-2
 overflow_add-result-2 g c =
     let fx : SFits w64 c.of_axle.result = search rules in
