@@ -1,5 +1,5 @@
 -- The traffic sum, when it overloads a member, and the permitted classes.
-use Rattle.std.specs.Prelude.{ℕ, ◌*◌, ◌≤◌, Bool, true, false, ◌⊎◌, List, [], ◌∷◌, ℤ, pos, negsuc, ◌+ℤ◌, ◌*ℤ◌, neg_ℤ, ◌<ℤ◌, Some, None, Option, slice_index_or}
+use Rattle.std.specs.Prelude.{Any, ℕ, ◌*◌, ◌≤◌, Bool, true, false, ◌⊎◌, List, [], ◌∷◌, ℤ, pos, negsuc, ◌+ℤ◌, ◌*ℤ◌, neg_ℤ, ◌<ℤ◌, Some, None, Option, slice_index_or}
 use Rattle.lines.specs.Lines.{Line}
 use Rattle.loads.specs.declared.decks.Deck.{Deck}
 use Rattle.loads.specs.declared.classes.Class.{Class}
@@ -28,10 +28,9 @@ abbrev pub three_sums : ℤ → ℤ → ℤ → List ℤ
 three_sums u g q =
     (pos 23 *ℤ u *ℤ g +ℤ pos 28 *ℤ q) ∷ ((pos 20 *ℤ u *ℤ g +ℤ pos 28 *ℤ q) ∷ ((pos 20 *ℤ u *ℤ g +ℤ pos 24 *ℤ q) ∷ []))
 
--- One of the three sums of the dead load G and the traffic sum Q keeps P; u is the unit of the traffic sum.
+-- One of the three sums keeps P.
 abbrev pub OneOfThree : (ℤ → Type 0) → ℤ → ℤ → ℤ → Type 0
-OneOfThree P u g q =
-    P (pos 23 *ℤ u *ℤ g +ℤ pos 28 *ℤ q) ⊎ (P (pos 20 *ℤ u *ℤ g +ℤ pos 28 *ℤ q) ⊎ P (pos 20 *ℤ u *ℤ g +ℤ pos 24 *ℤ q))
+OneOfThree P u g q = Any P (three_sums u g q)
 
 -- One kN of dead load or capacity is this much of a traffic sum.
 abbrev pub unit : Line → ℤ
