@@ -25,7 +25,7 @@ pub struct Figure {
 
 /// A lane as it is printed.
 #[derive(Clone, Copy)]
-struct Shown<'a>(&'a LaneRecord);
+pub struct Shown<'a>(pub &'a LaneRecord);
 
 impl<'a> fmt::Display for Shown<'a> {
     fn fmt<W: fmt::Write>(&self, f: &mut fmt::Formatter<W>) -> fmt::Result {
@@ -40,13 +40,10 @@ impl<'a> fmt::Display for Shown<'a> {
     }
 }
 
+/// The carriageway; each lane is printed by itself.
 impl fmt::Display for Figure {
     fn fmt<W: fmt::Write>(&self, f: &mut fmt::Formatter<W>) -> fmt::Result {
-        write!(f, "W {} raised {} {}:", self.width, self.left, self.right)?;
-        for lane in self.given.lanes.iter().take(self.given.count as usize) {
-            write!(f, " {}", Shown(lane))?;
-        }
-        Ok(())
+        write!(f, "W {} raised {} {}:", self.width, self.left, self.right)
     }
 }
 

@@ -6,7 +6,7 @@ mod hand;
 
 use families::rows::{Run, RunHead};
 use families::runs::Runs;
-use hand::{Figure, Found, figures};
+use hand::{Figure, Found, Shown, figures};
 use lines::influence_lines::InfluenceLine;
 use lines::numbered::Numbered;
 use loads::carriageways::Carriageway;
@@ -36,8 +36,17 @@ fn weighed<L: InfluenceLine>(tooth: &L, carriageway: &Carriageway, given: &Recor
     traffic_sum(tooth, &Class::Bk10.load_set(), carriageway, &shares, given)
 }
 
-fn weigh<L: InfluenceLine>(rt: &impl Print, tooth: &L, figure: &Figure) -> io::Result<()> {
+// The carriageway and each lane are written one by one, so that output that breaks off ends after a whole one.
+fn print_figure(rt: &impl Print, figure: &Figure) -> io::Result<()> {
     print!(rt; "{figure}")?;
+    for lane in figure.given.lanes.iter().take(figure.given.count as usize) {
+        print!(rt; " {}", Shown(lane))?;
+    }
+    Ok(())
+}
+
+fn weigh<L: InfluenceLine>(rt: &impl Print, tooth: &L, figure: &Figure) -> io::Result<()> {
+    print_figure(rt, figure)?;
     let Ok(carriageway) = Carriageway::new(figure.width, figure.left, figure.right) else {
         return println!(rt; " no carriageway");
     };

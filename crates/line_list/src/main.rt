@@ -14,10 +14,11 @@ use lines::joins::Joined;
 use lines::numbered::Numbered;
 use std::io;
 
-fn list_line<L: InfluenceLine>(rt: &impl Print, line: &L) -> io::Result<()> {
+fn list_line<F: Family>(rt: &impl Print, line: &Numbered<'_, F>) -> io::Result<()> {
+    let number = line.number;
     let n = line.length();
     let scale = line.scale();
-    println!(rt; "length {n} mm, scale {scale}")?;
+    println!(rt; "line {number}: length {n} mm, scale {scale}")?;
     for x in [0, n / 4, n / 2, n - n / 4, n] {
         let y = line.ordinate(x);
         println!(rt; "  ordinate at {x}: {y}")?;
@@ -30,7 +31,6 @@ fn list_lines<F: Family>(rt: &impl Print, family: &F) -> io::Result<()> {
     let count = family.count();
     println!(rt; "{count} lines")?;
     for number in 0..count {
-        print!(rt; "line {number}: ")?;
         list_line(rt, &Numbered { family, number })?;
     }
     Ok(())
