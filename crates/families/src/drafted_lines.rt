@@ -13,11 +13,15 @@ use crate::questions::Refusal;
 use lines::family::Family;
 use std::alloc::AllocError;
 
-// The place of a line's number among n lines.
+// The place of a line's number among n lines. By two tests, since a call asks it each time and `try_from` takes longer.
 fn place_of(line: i32, n: usize) -> Option<usize>
     ensures { Placed n line result }
 {
-    usize::try_from(line).ok().filter(|&i| i < n)
+    if 0 <= line && (line as usize) < n {
+        Some(line as usize)
+    } else {
+        None
+    }
 }
 
 /// Lines that are drafted by heads, each from rows of its own, over memory that the caller holds.

@@ -10,11 +10,11 @@ use crate::questions::Question;
 use crate::rows::{Run, RunHead};
 
 impl Run {
-    // The length, where it is not below 0.
+    // The length, where it is not below 0. Each ordinate asks it of run after run, and `try_from` takes longer.
     fn size(&self) -> u32
         ensures { result ≡ run_size self.now }
     {
-        u32::try_from(self.length).unwrap_or(0)
+        self.length.max(0) as u32
     }
 
     // The ordinate n millimetres into the run, where y is that at its beginning.

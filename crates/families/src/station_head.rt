@@ -29,6 +29,17 @@ impl Step {
         }
     }
 
+    // The step of a head of which it is known that it is from 1 to 1,000, so that no ordinate asks again.
+    fn known(head: &StationHead) -> Step
+        requires low { 1 ≤ size head.now.step }
+        requires high { size head.now.step ≤ 1000 }
+        ensures { result.size ≡ size head.now.step }
+    {
+        Step {
+            size: head.step.max(0) as u32,
+        }
+    }
+
     // The ordinate past one station, and the rest of the step before the next.
     fn weighed(self, past: u32, here: i32, next: i32) -> i64
         requires { past ≤ self.size }
@@ -116,6 +127,6 @@ impl Head for StationHead {
         if !(0..=self.length(own)).contains(&x) {
             return 0;
         }
-        Step::of(self).unwrap().straight(own, x as u32)
+        Step::known(self).straight(own, x as u32)
     }
 }

@@ -5,7 +5,6 @@ ghost use Rattle.traffic.specs.Records.{fills};
 ghost use Rattle.traffic.specs.Sets.{Takes};
 
 use crate::records::Sign;
-use lines::areas::double_area;
 use lines::influence_lines::InfluenceLine;
 
 pub(crate) fn is_under(a: i32, length: u16, k: u32) -> bool
@@ -33,11 +32,15 @@ pub(crate) fn areas_of<L: InfluenceLine, T: Fn(u32, i64) -> bool>(line: &L, take
 {
     let n = line.length() as u32;
     let mut sum = 0;
+    // Each ordinate is asked once, for the cells on both its sides; `double_area` would ask the length at each cell too.
+    let mut here = line.ordinate(0);
     for k in 0..n {
-        let area = double_area(line, k as i64);
+        let next = line.ordinate(k as i64 + 1);
+        let area = here + next;
         if takes(k, area) {
             sum += area;
         }
+        here = next;
     }
     sum
 }
